@@ -1,0 +1,15 @@
+use Rattle.std.proofs.Common.{◌≡◌, ℕ, ◌+◌, ◌≤◌, length, ◌-◌, ◌<◌}
+use Rattle.std.specs.Io.KnownBytes.{Consumes}
+use Rattle.pp_outside.proofs.reading.read_all.Given as goal
+
+-- what was read so far is what the source gave, and no count fell
+abbrev pub invariant-loop-bytes : goal.invariant-loop-bytes
+invariant-loop-bytes g l = record {
+  consumed : Consumes (g.S.Source.left l.fn.source) (g.S.Source.left l.source) l.bytes.items;
+  later : g.S.Source.faults l.fn.source ≤ g.S.Source.faults l.source;
+  few : length l.bytes.items ≤ l.most;
+  room : length l.chunk ≡ 16384;
+}
+
+abbrev pub decreases-loop-bytes : goal.decreases-loop-bytes
+decreases-loop-bytes g l = l.most - length l.bytes.items
