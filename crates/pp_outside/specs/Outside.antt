@@ -1,5 +1,5 @@
 -- Counts of faults, and what a reading of a whole source says.
-use Rattle.std.specs.Prelude.{◌≡◌, ◌≢◌, ℕ, ◌+◌, ◌-◌, ◌^◌, ◌≤◌, ◌<◌, min, List, [], ◌++◌, length, take, Option, Some, None, Result, Ok, Err, OnErr, ⊤}
+use Rattle.std.specs.Prelude.{◌≡◌, ℕ, ◌+◌, ◌-◌, ◌^◌, ◌≤◌, ◌<◌, min, List, ◌++◌, length, Option, Result, OnErr, ⊤}
 use Rattle.std.specs.Io.KnownBytes.{Consumes, IsAtEnd, Appends}
 use Rattle.pp_outside.specs.declared.reading.ReadFault.{ReadFault}
 use Rattle.pp_outside.specs.declared.reading.ReadFault.TheVariants.{Failed, TooLong, NoMemory}

@@ -78,3 +78,6 @@ impl Gate for NoGate {
 
     fn after(&self, _caller: u32, _number: u32) {}
 }
+
+#[cfg(test)]
+mod tests;

@@ -1,6 +1,9 @@
 //! A source and a sink that never fail.
 
-ghost use Rattle.std.specs.Prelude.{◌≡◌, ℕ, ◌≤◌, drop, length, None, Some};
+ghost use Rattle.std.specs.Prelude.{◌≡◌, ℕ, ◌+◌, ◌-◌, ◌^◌, ◌<◌, ◌≤◌, min, drop, length, None, Some, Ok, IfOk};
+ghost use Rattle.std.specs.Io.{WritesAtMost};
+ghost use Rattle.std.specs.Io.KnownBytes.{WriteAppends};
+ghost use Rattle.pp_outside.specs.Outside.{HasCause};
 
 use crate::{Failed, Sink, Source};
 
@@ -55,7 +58,15 @@ impl Sink for SureSink {
 
     ghost faults = { λ s. 0 };
 
-    fn write(&mut self, bytes: &[u8]) -> Result<usize, Failed> {
+    fn write(&mut self, bytes: &[u8]) -> Result<usize, Failed>
+        requires some { 0 < length bytes.now }
+        ensures bound { WritesAtMost result bytes.now }
+        ensures progress { IfOk result (λ n. 1 ≤ n) }
+        ensures bytes { WriteAppends None None result bytes.now }
+        ensures cause { HasCause 0 0 result }
+        ensures whole { result ≡ Ok (length bytes.now) }
+        ensures count { self.new.count ≡ min (self.old.count + length bytes.now) (2 ^ 64 - 1) }
+    {
         self.count = self.count.saturating_add(bytes.len() as u64);
         Ok(bytes.len())
     }

@@ -1,4 +1,4 @@
-use Rattle.std.proofs.Common.{arith, ◌≡◌, ℕ, ◌≤◌, ◌++◌, length, take, length-append}
+use Rattle.std.proofs.Common.{arith, ◌++◌, take, length-append}
 use Rattle.std.proofs.KnownBytes.{Consumes-trans}
 use Rattle.pp_outside.proofs.reading.read_all.Goals as goal
 

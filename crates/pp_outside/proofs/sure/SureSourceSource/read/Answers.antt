@@ -1,4 +1,4 @@
-use Rattle.std.proofs.Common.{arith, rules, ◌≡◌, ◌∙◌, ap, drop, length}
+use Rattle.std.proofs.Common.{arith, rules, length}
 use Rattle.pp_outside.proofs.MemoryReads.{front_given}
 use Rattle.pp_outside.proofs.sure.SureSourceSource.read.Goals as goal
 
