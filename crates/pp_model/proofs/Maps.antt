@@ -123,7 +123,7 @@ searched m k (Err at) rises in_range parted =
     let up : IsNonDecreasingBy (λ p. ordering_index (nat_cmp p.key k)) m =
           IsNonDecreasingBy-from_default (λ p. ordering_index (nat_cmp p.key k)) m d (λ i j le l. compared m k i j rises le l) in
     let is = lacks_key m 0 k at rises in_range
-          (λ j p lt e. rw (← get_or_from_slice_get m j p d e) (ranked _ k _ (sym ((parted up).0 j d (omega arith) lt))))
+          (λ j p below e. rw (← get_or_from_slice_get m j p d e) (ranked _ k _ (sym ((parted up).0 j d (omega arith) below))))
           (λ p e. rw (← get_or_from_slice_get m at p d e)
             (ranked _ k _ (sym ((parted up).1 at d (omega arith) (slice_get_within m at p e))))) in
     record { found = tt; absent = record { within = in_range; absent = is.0; with_key = is.1 } }
@@ -134,6 +134,6 @@ searched m k (Err at) rises in_range parted =
         let le' : (get_or m i (pair 0 0)).key ≤ (get_or m j (pair 0 0)).key =
               ⊎_elim
               (λ lt. omega (arith, keys_rise m 0 i j (pair 0 0) rises lt l))
-              (λ ge. let same : i ≡ j = omega arith in rw same (omega arith))
+              (λ (ge : j ≤ i). let same : i ≡ j = omega arith in rw same (omega arith))
               (cases_lt i j) in
         grind (arith, nat_tests)

@@ -1,7 +1,7 @@
 -- What an entered call leaves of a pass of the plain map.
-use Rattle.std.proofs.Common.{◌≡◌, ℕ, zero, suc, ◌+◌, ◌-◌, ◌*◌, ◌<◌, ◌≤◌, min, Bool, true, false, cond, List, [], ◌∷◌, ◌++◌, length, take, drop, Option, Some, None, ⊎_elim, inl, inr, refl, sym, ap, ◌∙◌, subst, arith, length-append, append-nil, take-append-drop}
+use Rattle.std.proofs.Common.{◌≡◌, ℕ, zero, suc, ◌+◌, ◌-◌, ◌*◌, ◌<◌, ◌≤◌, min, Bool, true, false, cond, eqb, List, [], ◌∷◌, ◌++◌, length, take, drop, Option, Some, None, ⊎_elim, inl, inr, refl, sym, ap, ◌∙◌, subst, arith, length-append, append-nil, take-append-drop, eq-eqb, ne_eqb}
 use Rattle.std.specs.Prelude.{slice_get}
-use Rattle.std.proofs.lemmas.Bool.{cases_Bool, true≢false}
+use Rattle.std.proofs.lemmas.Bool.{cases_Bool, cases_eq, cases_lt, true≢false}
 use Rattle.pp_model.specs.declared.Call.{Call}
 use Rattle.pp_model.specs.declared.Call.TheVariants.{Get, Insert, Remove}
 use Rattle.pp_model.specs.declared.Reply.{Reply}
@@ -10,13 +10,13 @@ use Rattle.pp_model.specs.declared.Answer.TheVariants.{Said, Full}
 use Rattle.pp_model.specs.declared.Change.{Change}
 use Rattle.pp_model.specs.declared.Placed.{Placed}
 use Rattle.pp_model.specs.declared.Pair.{Pair}
-use Rattle.pp_model.specs.Lists.{upto, IsPrefix}
+use Rattle.pp_model.specs.Lists.{upto, times, RisesFrom, IsPrefix, AtEach}
 use Rattle.pp_model.specs.FiniteMap.{find, KeysRise, keys_of}
 use Rattle.pp_model.specs.Calls.{key_of, reply, map_after, changes}
 use Rattle.pp_model.specs.History.{after, contents_of, Sound, change_of, FitsUnchanged, Stands}
-use Rattle.pp_model.specs.Pass.{PassView}
-use Rattle.pp_model.specs.MapCalls.{Grew, PlacesReply, FoundFull, LeavesPurse, LeftAlone, Tidied, AnswersCall, placed}
-use Rattle.pp_model.specs.Plain.{changes_from, log_of, plain_pass, PlainHolds, plain_meaning, plain_sizes, PlainAnswers, IsPlainAnswer}
+use Rattle.pp_model.specs.Pass.{PassView, CallerRun}
+use Rattle.pp_model.specs.MapCalls.{Grew, PlacesReply, FoundFull, LeavesPurse, LeftAlone, Tidied, AnswersCall, IsClosing, AreNumbers, caller_run, placed}
+use Rattle.pp_model.specs.Plain.{changes_from, log_of, plain_pass, PlainHolds, plain_meaning, plain_sizes, PlainAnswers, IsPlainAnswer, plain_run}
 use Rattle.pp_model.proofs.Histories.{stands_unchanged, stands_change, sound_change, contents_push, after_all, fits_within}
 
 pub changes_from-push : (n : ℕ) (mine : List Placed) (s : Placed)
@@ -53,6 +53,70 @@ length-changes_from n (s ∷ mine) =
 pub length-upto : (low n : ℕ) → length (upto low n) ≡ n
 length-upto low zero = refl
 length-upto low (suc n) = ap suc (length-upto (low + 1) n)
+
+upto-suc : (low n : ℕ) → upto low (suc n) ≡ upto low n ++ (low + n) ∷ []
+upto-suc low zero = ap (λ k. k ∷ []) (omega arith)
+upto-suc low (suc n) =
+    let e : low + 1 + n ≡ low + suc n = omega arith in
+    ap (λ ks. low ∷ ks) (upto-suc (low + 1) n ∙ ap (λ k. upto (low + 1) n ++ k ∷ []) e)
+
+-- one more number
+pub upto-push : (low n m : ℕ) → m ≡ n + 1 → upto low m ≡ upto low n ++ (low + n) ∷ []
+upto-push low n m is = let e : m ≡ suc n = omega arith in ap (upto low) e ∙ upto-suc low n
+
+times_below : (n low k : ℕ) → n < low → times n (upto low k) ≡ 0
+times_below n low zero l = refl
+times_below n low (suc k) l =
+    let other : eqb low n ≡ false = ne_eqb low n (λ e. omega arith) in
+    rw other (times_below n (low + 1) k (omega arith))
+
+times_above : (n low k : ℕ) → low + k ≤ n → times n (upto low k) ≡ 0
+times_above n low zero l = refl
+times_above n low (suc k) l =
+    let other : eqb low n ≡ false = ne_eqb low n (λ e. omega arith) in
+    rw other (times_above n (low + 1) k (omega arith))
+
+times_within : (n low k : ℕ) → low ≤ n → n < low + k → times n (upto low k) ≡ 1
+times_within n low zero le l = absurd (omega arith)
+times_within n low (suc k) le l =
+    ⊎_elim
+    (λ same. let test : eqb low n ≡ true = eq-eqb low n same in rw test (omega (arith, times_below n (low + 1) k (omega arith))))
+    (λ other. let test : eqb low n ≡ false = ne_eqb low n other in rw test (times_within n (low + 1) k (omega arith) (omega arith)))
+    (cases_eq low n)
+
+RisesFrom-upto : (a low k : ℕ) → a ≤ low → RisesFrom a (upto low k)
+RisesFrom-upto a low zero le = tt
+RisesFrom-upto a low (suc k) le = (le, RisesFrom-upto (low + 1) (low + 1) k (omega arith))
+
+-- the numbers up to a first one and those above it, up to the last
+plain_numbers : (records n : ℕ) → n ≤ records → AreNumbers records (upto 1 n) (upto (n + 1) (records - n))
+plain_numbers records n le = record {
+  each_once = λ i low high.
+      ⊎_elim
+      (λ (l : i < n + 1). omega (arith, times_within i 1 n low (omega arith), times_below i (n + 1) (records - n) l))
+      (λ (g : n + 1 ≤ i). omega (arith, times_above i 1 n (omega arith), times_within i (n + 1) (records - n) g (omega arith)))
+      (cases_lt i (n + 1));
+  no_other = λ i outside.
+      ⊎_elim
+      (λ (none : i ≡ 0). omega (arith, times_below i 1 n (omega arith), times_below i (n + 1) (records - n) (omega arith)))
+      (λ (high : records < i). omega (arith, times_above i 1 n (omega arith), times_above i (n + 1) (records - n) (omega arith)))
+      outside;
+  free_rise = RisesFrom-upto 0 (n + 1) (records - n) (omega arith)
+}
+
+first_caller : (n : ℕ) (call : Call) (rest : List Change) → ((p : ℕ) (c : Change) → slice_get rest p ≡ Some c → c.caller ≡ 0)
+    → (p : ℕ) (c : Change) → slice_get (change_of 0 n call ∷ rest) p ≡ Some c → c.caller ≡ 0
+first_caller n call rest others zero c e = let is : change_of 0 n call ≡ c = cc in ap (λ (x : Change). x.caller) (sym is)
+first_caller n call rest others (suc p) c e = others p c e
+
+-- each change of the plain map is its one caller's
+plain_callers : (n : ℕ) (mine : List Placed) (p : ℕ) (c : Change) → slice_get (changes_from n mine) p ≡ Some c → c.caller ≡ 0
+plain_callers n [] p c e = absurd cc
+plain_callers n (s ∷ mine) p c e =
+    ⊎_elim
+    (λ test. first_caller n s.call (changes_from (n + 1) mine) (plain_callers (n + 1) mine) p c (rw test at e))
+    (λ test. plain_callers (n + 1) mine p c (rw test at e))
+    (cases_Bool (changes s.reply))
 
 module _ (records calls : ℕ) (pairs : List Pair) (mine : List Placed) (holds : PlainHolds records calls pairs mine)
     (room : length mine < calls) (call : Call) (r : Reply) (right : reply pairs call ≡ r) where
@@ -272,3 +336,36 @@ answers_full records calls pairs mine holds k v absent all budget left =
   where
     full_prefix : (free : List ℕ) (n : ℕ) → IsPrefix (take n free) free
     full_prefix free n = (drop n free, sym (take-append-drop n free))
+
+-- What stands after a plain map was closed over its one pass.
+pub plain_closing : (records calls : ℕ) (pairs : List Pair) (mine : List Placed) (free : List ℕ) → PlainHolds records calls pairs mine
+    → free ≡ upto (length pairs + 1) (records - length pairs)
+    → IsClosing plain_meaning (plain_sizes records) (plain_pass records calls pairs mine ∷ []) pairs free (plain_run records mine)
+plain_closing records calls pairs mine free holds is =
+    let pass = plain_pass records calls pairs mine in
+    let many : length (contents_of (log_of mine)) ≡ length pairs = ap length (sym holds.contents) in
+    record {
+      sizes_are = refl;
+      sound = holds.sound;
+      contents_are = holds.contents;
+      keys_rise = holds.rises;
+      callers_are = refl;
+      known = λ p c e. omega (arith, plain_callers 1 mine p c e);
+      stand = only (λ p. Stands (log_of mine) p.caller p.mine) pass holds.stands;
+      seen = only (λ p. IsPrefix p.seen (log_of mine)) pass ([], sym (append-nil (log_of mine)));
+      order = only (λ p. IsPrefix p.order []) pass ([], refl);
+      saw_all = record { position = 0; last = pass; is_one = refl; seen = refl; order = refl };
+      ordered = record {
+        execution = tt;
+        own_changes = λ k e none. absurd cc;
+        logged = λ some. absurd (omega arith);
+        own_steps = only (λ (r : CallerRun). r.steps ≡ []) (caller_run pass) refl
+      };
+      holds = (refl, ap (λ n. upto 1 n) many);
+      numbers = rw (is, many) (plain_numbers records (length pairs) holds.pairs_fit);
+      live = length-upto 1 (length (contents_of (log_of mine))) ∙ many
+    }
+  where
+    only : {A : Type 0} (P : A → Type 0) (x : A) → P x → AtEach (x ∷ []) (λ k y. P y)
+    only P x px zero y e = let is : x ≡ y = cc in subst P is px
+    only P x px (suc k) y e = absurd cc
