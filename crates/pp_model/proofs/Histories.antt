@@ -59,9 +59,9 @@ pub sound_change : (log : List Change) (c : Change) → Sound log → changes (r
 sound_change log c sound right p d e =
     ⊎_elim
     (λ old. let within : p ≤ length log = omega (arith, slice_get_within log p d old) in
-        rw (after_grown log (c ∷ []) p within) (sound p d old))
+    rw (after_grown log (c ∷ []) p within) (sound p d old))
     (λ new. let is : d ≡ c = new.1 in
-        rw (new.0, after_old log (c ∷ [])) (ap (λ (x : Change). changes (reply (contents_of log) x.call)) is ∙ right))
+    rw (new.0, after_old log (c ∷ [])) (ap (λ (x : Change). changes (reply (contents_of log) x.call)) is ∙ right))
     (slice_get_push log c p d e)
 
 fits_by_grown : (b : Bool) (log more : List Change) (caller number : ℕ) (s : Placed)
@@ -72,11 +72,11 @@ fits_by_grown true log more caller number s f =
       before = f.before;
       place = f.place;
       logged = slice_get-append_left log more f.before within ∙ f.logged;
-      right = ap (λ m. reply m s.call) (after_grown log more f.before (omega arith)) ∙ f.right
+      right = ap (λ m. reply m s.call) (after_grown log more f.before (omega arith)) ∙ f.right;
     }
 fits_by_grown false log more caller number s f = record {
   within = omega (arith, length-append log more, f.within);
-  right = ap (λ m. reply m s.call) (after_grown log more s.place f.within) ∙ f.right
+  right = ap (λ m. reply m s.call) (after_grown log more s.place f.within) ∙ f.right;
 }
 
 -- what fits a log fits every longer one
@@ -127,7 +127,7 @@ stands_grown log more caller mine others stands = record {
   rising = stands.rising;
   all = places_from-append 0 caller log more
       ∙ (ap (λ xs. places_from 0 caller log ++ xs) (places_others (0 + length log) caller more others)
-      ∙ (append-nil (places_from 0 caller log) ∙ stands.all))
+      ∙ (append-nil (places_from 0 caller log) ∙ stands.all));
 }
 
 -- what follows all earlier calls of a list rises with them
@@ -138,13 +138,13 @@ rising_push : (mine : List Placed) (s : Placed)
 rising_push mine s rising last i j t u lt at_i at_j =
     ⊎_elim
     (λ old_j.
-        let within = slice_get_within mine j u old_j in
-        let old_i : slice_get mine i ≡ Some t = sym (slice_get-append_left mine (s ∷ []) i (omega arith)) ∙ at_i in
-        rising i j t u lt old_i old_j)
+    let within = slice_get_within mine j u old_j in
+    let old_i : slice_get mine i ≡ Some t = sym (slice_get-append_left mine (s ∷ []) i (omega arith)) ∙ at_i in
+    rising i j t u lt old_i old_j)
     (λ new.
-        let below : i < length mine = omega (arith, new.0) in
-        let old_i : slice_get mine i ≡ Some t = sym (slice_get-append_left mine (s ∷ []) i below) ∙ at_i in
-        subst (λ x. Follows t x) (sym new.1) (last i t old_i))
+    let below : i < length mine = omega (arith, new.0) in
+    let old_i : slice_get mine i ≡ Some t = sym (slice_get-append_left mine (s ∷ []) i below) ∙ at_i in
+    subst (λ x. Follows t x) (sym new.1) (last i t old_i))
     (slice_get_push mine s j u at_j)
 
 each_push : (log : List Change) (caller : ℕ) (mine : List Placed) (s : Placed)
@@ -167,9 +167,9 @@ stands_unchanged log caller mine s stands none fits highest =
       each = each_push log caller mine s stands.each last;
       rising = rising_push mine s stands.rising (λ i t e. record {
         rises = highest i t e;
-        above = λ changed. absurd (true≢false (sym changed ∙ none))
+        above = λ changed. absurd (true≢false (sym changed ∙ none));
       });
-      all = stands.all ∙ sym (places_of-append mine (s ∷ []) ∙ (ap (λ xs. places_of mine ++ xs) places ∙ append-nil (places_of mine)))
+      all = stands.all ∙ sym (places_of-append mine (s ∷ []) ∙ (ap (λ xs. places_of mine ++ xs) places ∙ append-nil (places_of mine)));
     }
 
 -- A change is entered at the end of the log.
@@ -179,24 +179,24 @@ pub stands_change : (log : List Change) (caller : ℕ) (mine : List Placed) (s :
 stands_change log caller mine s stands changed right place =
     let new = change_of caller (length mine + 1) s.call in
     let fits : FitsAsChange (log ++ new ∷ []) caller (length mine + 1) s = record {
-          before = length log;
-          place = place;
-          logged = slice_get_new log new;
-          right = ap (λ m. reply m s.call) (after_old log (new ∷ [])) ∙ right
-        } in
+      before = length log;
+      place = place;
+      logged = slice_get_new log new;
+      right = ap (λ m. reply m s.call) (after_old log (new ∷ [])) ∙ right;
+    } in
     let last : Fits (log ++ new ∷ []) caller (length mine + 1) s =
-          subst (λ b. FitsBy b (log ++ new ∷ []) caller (length mine + 1) s) (sym changed) fits in
+    subst (λ b. FitsBy b (log ++ new ∷ []) caller (length mine + 1) s) (sym changed) fits in
     let test : eqb caller caller ≡ true = eq-eqb caller caller refl in
     let logged : places_from (0 + length log) caller (new ∷ []) ≡ (0 + length log + 1) ∷ [] = rw test refl in
     let number : 0 + length log + 1 ≡ s.place = omega (arith, place) in
     let places : places_of (s ∷ []) ≡ s.place ∷ [] = rw changed refl in
     let low : (i : ℕ) (t : Placed) → slice_get mine i ≡ Some t → t.place < s.place =
-          λ i t e. omega (arith, place, fits_within log caller (i + 1) t (stands.each i t e)) in
+    λ i t e. omega (arith, place, fits_within log caller (i + 1) t (stands.each i t e)) in
     record {
       each = each_push (log ++ new ∷ []) caller mine s (λ n t e. fits_grown log (new ∷ []) caller (n + 1) t (stands.each n t e)) last;
       rising = rising_push mine s stands.rising (λ i t e. record { rises = omega (arith, low i t e); above = λ _. low i t e });
       all = places_from-append 0 caller log (new ∷ [])
           ∙ (ap (λ xs. places_from 0 caller log ++ xs) (logged ∙ ap (λ q. q ∷ []) number)
           ∙ (ap (λ xs. xs ++ s.place ∷ []) stands.all
-          ∙ sym (places_of-append mine (s ∷ []) ∙ ap (λ xs. places_of mine ++ xs) places)))
+          ∙ sym (places_of-append mine (s ∷ []) ∙ ap (λ xs. places_of mine ++ xs) places)));
     }

@@ -1,3 +1,4 @@
 pub mod Maps
 pub mod Histories
 pub mod PlainPasses
+pub mod Chains

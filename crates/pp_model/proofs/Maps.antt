@@ -35,10 +35,10 @@ RisesFrom-put (p ∷ m) low k v r le absent =
     ⊎_elim
     (λ below. let test : ltb k p.key ≡ true = lt-ltb k p.key below in rw test (le, (omega arith, r.1)))
     (λ above.
-        let test : ltb k p.key ≡ false = le-ltb k p.key above in
-        let apart : eqb p.key k ≡ false = ne_from_absent p m k absent in
-        let other : p.key ≡ k → ⊥ = eqb-false p.key k apart in
-        rw test (r.0, RisesFrom-put m (p.key + 1) k v r.1 (omega arith) (rw apart at absent)))
+    let test : ltb k p.key ≡ false = le-ltb k p.key above in
+    let apart : eqb p.key k ≡ false = ne_from_absent p m k absent in
+    let other : p.key ≡ k → ⊥ = eqb-false p.key k apart in
+    rw test (r.0, RisesFrom-put m (p.key + 1) k v r.1 (omega arith) (rw apart at absent)))
     (cases_lt k p.key)
 
 pub RisesFrom-drop_key : (m : List Pair) (low k : ℕ) → RisesFrom low (keys_of m) → RisesFrom low (keys_of (drop_key m k))
@@ -46,9 +46,9 @@ RisesFrom-drop_key [] low k r = tt
 RisesFrom-drop_key (p ∷ m) low k r =
     ⊎_elim
     (λ same. let test : eqb p.key k ≡ true = eq-eqb p.key k same in
-        rw test (RisesFrom-lower low (p.key + 1) (keys_of m) (omega (arith, r.0)) r.1))
+    rw test (RisesFrom-lower low (p.key + 1) (keys_of m) (omega (arith, r.0)) r.1))
     (λ other. let test : eqb p.key k ≡ false = ne_eqb p.key k other in
-        rw test (r.0, RisesFrom-drop_key m (p.key + 1) k r.1))
+    rw test (r.0, RisesFrom-drop_key m (p.key + 1) k r.1))
     (cases_eq p.key k)
 
 pub length-put : (m : List Pair) (k v : ℕ) → length (put m k v) ≡ length m + 1
@@ -114,26 +114,26 @@ searched m k (Ok at) rises in_range equal =
       found = record {
         within = in_range;
         found = λ p e. is.1 ∙ ap (λ (x : Pair). Some x.value) (get_or_from_slice_get m at p d e);
-        rest = is.2
+        rest = is.2;
       };
-      absent = tt
+      absent = tt;
     }
 searched m k (Err at) rises in_range parted =
     let d = pair 0 0 in
     let up : IsNonDecreasingBy (λ p. ordering_index (nat_cmp p.key k)) m =
-          IsNonDecreasingBy-from_default (λ p. ordering_index (nat_cmp p.key k)) m d (λ i j le l. compared m k i j rises le l) in
+    IsNonDecreasingBy-from_default (λ p. ordering_index (nat_cmp p.key k)) m d (λ i j le l. compared m k i j rises le l) in
     let is = lacks_key m 0 k at rises in_range
-          (λ j p below e. rw (← get_or_from_slice_get m j p d e) (ranked _ k _ (sym ((parted up).0 j d (omega arith) below))))
-          (λ p e. rw (← get_or_from_slice_get m at p d e)
-            (ranked _ k _ (sym ((parted up).1 at d (omega arith) (slice_get_within m at p e))))) in
+    (λ j p below e. rw (← get_or_from_slice_get m j p d e) (ranked _ k _ (sym ((parted up).0 j d (omega arith) below))))
+    (λ p e. rw (← get_or_from_slice_get m at p d e)
+    (ranked _ k _ (sym ((parted up).1 at d (omega arith) (slice_get_within m at p e))))) in
     record { found = tt; absent = record { within = in_range; absent = is.0; with_key = is.1 } }
   where
     compared : (m : List Pair) (k i j : ℕ) → KeysRise m → i ≤ j → j < length m
         → ordering_index (nat_cmp (get_or m i (pair 0 0)).key k) ≤ ordering_index (nat_cmp (get_or m j (pair 0 0)).key k)
     compared m k i j rises le l =
         let le' : (get_or m i (pair 0 0)).key ≤ (get_or m j (pair 0 0)).key =
-              ⊎_elim
-              (λ lt. omega (arith, keys_rise m 0 i j (pair 0 0) rises lt l))
-              (λ (ge : j ≤ i). let same : i ≡ j = omega arith in rw same (omega arith))
-              (cases_lt i j) in
+        ⊎_elim
+        (λ lt. omega (arith, keys_rise m 0 i j (pair 0 0) rises lt l))
+        (λ (ge : j ≤ i). let same : i ≡ j = omega arith in rw same (omega arith))
+        (cases_lt i j) in
         grind (arith, nat_tests)

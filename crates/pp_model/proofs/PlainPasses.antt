@@ -101,7 +101,7 @@ plain_numbers records n le = record {
       (λ (none : i ≡ 0). omega (arith, times_below i 1 n (omega arith), times_below i (n + 1) (records - n) (omega arith)))
       (λ (high : records < i). omega (arith, times_above i 1 n (omega arith), times_above i (n + 1) (records - n) (omega arith)))
       outside;
-  free_rise = RisesFrom-upto 0 (n + 1) (records - n) (omega arith)
+  free_rise = RisesFrom-upto 0 (n + 1) (records - n) (omega arith);
 }
 
 first_caller : (n : ℕ) (call : Call) (rest : List Change) → ((p : ℕ) (c : Change) → slice_get rest p ≡ Some c → c.caller ≡ 0)
@@ -126,18 +126,18 @@ module _ (records calls : ℕ) (pairs : List Pair) (mine : List Placed) (holds :
       let s = placed call r (length (log_of mine)) in
       let log = log_unchanged mine s none in
       let fits : FitsUnchanged (log_of mine) s = record {
-            within = omega arith;
-            right = ap (λ m. reply m call) (after_all (log_of mine) ∙ sym holds.contents) ∙ right
-          } in
+        within = omega arith;
+        right = ap (λ m. reply m call) (after_all (log_of mine) ∙ sym holds.contents) ∙ right;
+      } in
       let stands : Stands (log_of mine) 0 (mine ++ s ∷ []) =
-            stands_unchanged (log_of mine) 0 mine s holds.stands none fits (λ i t e. fits_within (log_of mine) 0 (i + 1) t (holds.stands.each i t e)) in
+      stands_unchanged (log_of mine) 0 mine s holds.stands none fits (λ i t e. fits_within (log_of mine) 0 (i + 1) t (holds.stands.each i t e)) in
       record {
         contents = holds.contents ∙ ap contents_of (sym log);
         rises = holds.rises;
         stands = subst (λ l. Stands l 0 (mine ++ s ∷ [])) (sym log) stands;
         sound = subst Sound (sym log) holds.sound;
         pairs_fit = holds.pairs_fit;
-        calls_fit = omega (arith, length-append mine (s ∷ []))
+        calls_fit = omega (arith, length-append mine (s ∷ []));
       }
 
   -- a call that changed the pairs
@@ -156,7 +156,7 @@ module _ (records calls : ℕ) (pairs : List Pair) (mine : List Placed) (holds :
         stands = subst (λ l. Stands l 0 (mine ++ s ∷ [])) (sym log) stands;
         sound = subst Sound (sym log) sound;
         pairs_fit = fit;
-        calls_fit = omega (arith, length-append mine (s ∷ []))
+        calls_fit = omega (arith, length-append mine (s ∷ []));
       }
 
 -- a pass's purse after an insert or a remove
@@ -170,7 +170,7 @@ plain_tidied records calls calls' spends pairs pairs' mine mine' le =
       retired = omega arith;
       chains = omega arith;
       shared = inl (omega (arith, now));
-      kept = omega (arith, now, was)
+      kept = omega (arith, now, was);
     }
 
 plain_purse : (records calls : ℕ) (call : Call) (pairs : List Pair) (mine mine' : List Placed)
@@ -196,7 +196,7 @@ plain_grew records calls pairs pairs' mine mine' seen le = record {
   order = ([], refl);
   wrote = omega arith;
   room = omega arith;
-  seen_by = λ some. absurd (omega arith)
+  seen_by = λ some. absurd (omega arith);
 }
 
 module _ (records calls : ℕ) (pairs : List Pair) (mine : List Placed) (holds : PlainHolds records calls pairs mine)
@@ -218,13 +218,13 @@ module _ (records calls : ℕ) (pairs : List Pair) (mine : List Placed) (holds :
           within = omega (arith, ap length log);
           above = λ changed. absurd (true≢false (sym changed ∙ none));
           from_start = λ _. omega arith;
-          least = λ _ q from below _. omega arith
+          least = λ _ q from below _. omega arith;
         };
         stands = holds'.stands;
         lost = left;
         cause = record { no_step = refl; seen = refl; answers = plain_answers_unchanged r records _ none };
         purse = plain_purse records calls call pairs mine mine';
-        full = tt
+        full = tt;
       }
 
 -- what a change leaves: an insert has one pair more, a remove one less
@@ -278,13 +278,13 @@ module _ (records calls : ℕ) (pairs : List Pair) (mine : List Placed) (holds :
           within = omega (arith, ap length log, length-append (log_of mine) (change_of 0 (length mine + 1) call ∷ []));
           above = λ _. omega arith;
           from_start = λ none. absurd (true≢false (sym changed ∙ none));
-          least = λ none q from below _. true≢false (sym changed ∙ none)
+          least = λ none q from below _. true≢false (sym changed ∙ none);
         };
         stands = holds_changed.stands;
         lost = left;
         cause = record { no_step = refl; seen = refl; answers = change_answers records call r pairs pairs' (contents_of (log_of mine)) holds.contents change };
         purse = change_purse records calls call r pairs pairs' mine mine' change;
-        full = tt
+        full = tt;
       }
 
 -- the same of a pass that counts its changes
@@ -325,13 +325,13 @@ answers_full records calls pairs mine holds k v absent all budget left =
         place = length (log_of mine);
         from_start = omega arith;
         within = omega arith;
-        absent = ap (λ m. find m k) (after_all (log_of mine) ∙ sym holds.contents) ∙ absent
+        absent = ap (λ m. find m k) (after_all (log_of mine) ∙ sym holds.contents) ∙ absent;
       };
       stands = holds.stands;
       lost = left;
       cause = record { no_step = refl; seen = refl; answers = ap length (sym holds.contents) ∙ all };
       purse = plain_purse records calls (Insert k v) pairs mine mine;
-      full = record { retired = omega arith; free = full_prefix (upto (length pairs + 1) (records - length pairs)) _ }
+      full = record { retired = omega arith; free = full_prefix (upto (length pairs + 1) (records - length pairs)) _ };
     }
   where
     full_prefix : (free : List ℕ) (n : ℕ) → IsPrefix (take n free) free
@@ -359,11 +359,11 @@ plain_closing records calls pairs mine free holds is =
         execution = tt;
         own_changes = λ k e none. absurd cc;
         logged = λ some. absurd (omega arith);
-        own_steps = only (λ (r : CallerRun). r.steps ≡ []) (caller_run pass) refl
+        own_steps = only (λ (r : CallerRun). r.steps ≡ []) (caller_run pass) refl;
       };
       holds = (refl, ap (λ n. upto 1 n) many);
       numbers = rw (is, many) (plain_numbers records (length pairs) holds.pairs_fit);
-      live = length-upto 1 (length (contents_of (log_of mine))) ∙ many
+      live = length-upto 1 (length (contents_of (log_of mine))) ∙ many;
     }
   where
     only : {A : Type 0} (P : A → Type 0) (x : A) → P x → AtEach (x ∷ []) (λ k y. P y)

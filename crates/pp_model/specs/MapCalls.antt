@@ -223,8 +223,8 @@ pub record IsClosing (meaning : Meaning) (sizes : MapSizes) (passes : List PassV
 pub data AnswersCalls (meaning : Meaning) (sizes : MapSizes) (budget : ℕ) (before : PassView) : List Call → List Answer → PassView → Type 0 where
   none : AnswersCalls meaning sizes budget before [] [] before
   more : (calls : List Call) (answers : List Answer) (then_at now : PassView) (call : Call) (answer : Answer)
-    → AnswersCalls meaning sizes budget before calls answers then_at → AnswersCall meaning sizes call budget then_at now answer
-    → AnswersCalls meaning sizes budget before (calls ++ call ∷ []) (answers ++ answer ∷ []) now
+      → AnswersCalls meaning sizes budget before calls answers then_at → AnswersCall meaning sizes call budget then_at now answer
+      → AnswersCalls meaning sizes budget before (calls ++ call ∷ []) (answers ++ answer ∷ []) now
 
 -- what a placed call says
 pub record SaidCall : Type 0 where

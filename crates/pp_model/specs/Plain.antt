@@ -38,7 +38,7 @@ plain_pass records calls pairs mine = record {
   free = upto (length pairs + 1) (records - length pairs);
   retired = [];
   chains = 0;
-  share = records
+  share = records;
 }
 
 -- what a pass of the plain map keeps
@@ -81,7 +81,7 @@ plain_meaning = record {
   lost = λ sizes call steps. 0;
   lost_early = λ sizes call steps. 0;
   Cause = PlainCause;
-  Shelved = λ sizes steps. ⊥
+  Shelved = λ sizes steps. ⊥;
 }
 
 -- a call of the plain map was made, whatever its budget
@@ -106,5 +106,5 @@ plain_run records mine = record {
   callers = record { caller = 0; mine = mine; steps = [] } ∷ [];
   order = [];
   live = upto 1 (length (contents_of (log_of mine)));
-  sizes = plain_sizes records
+  sizes = plain_sizes records;
 }

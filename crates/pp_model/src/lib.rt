@@ -2,6 +2,7 @@
 //! that every map of this project meets.
 #![tactic(auto)]
 
+pub mod calling;
 pub mod map_calls;
 pub mod plain;
 pub mod steps;

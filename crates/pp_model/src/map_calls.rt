@@ -10,9 +10,8 @@ ghost use Rattle.pp_model.specs.Lists.{AtEach};
 ghost use Rattle.pp_model.specs.Pass.{PassView, GoingView, MapSizes, Meaning, RunView};
 ghost use Rattle.pp_model.specs.MapCalls.{MayCall, AnswersCall, Begun, Grew, SameCall, WentOn, Counted, IfOn, IfDone, StandsIn, IsClosing, get_answer, insert_answer, remove_answer};
 
-use std::alloc::Global;
-
 use crate::{Call, InsertFault, Inserted, Lost, Pair, Turned};
+use std::alloc::Global;
 
 /// A map and its passes, handed back as they were where there was no memory to close it.
 #[derive(Drop)]
@@ -72,12 +71,19 @@ pub trait MapCalls: Sized {
     type Witness;
 
     ghost meaning: { Meaning };
+
     ghost sizes: { Self → MapSizes };
+
     ghost pass_view: { Self.Pass → PassView };
+
     ghost going_view: { Self.Going → GoingView };
+
     ghost run_view: { Self.Witness → RunView };
+
     ghost Idle: { Self.Pass → Type 0 };
+
     ghost Belongs: { Self → Self.Pass → Type 0 };
+
     ghost UnderWay: { Self → Self.Pass → Self.Going → PassView → Type 0 };
 
     /// The value of a key. `None`: the key is absent.
@@ -99,7 +105,13 @@ pub trait MapCalls: Sized {
     ///
     /// `Full`: no free record was found. `Lost` exactly where the lost turns reached the budget before the insert took
     /// effect. Either way nothing changed.
-    fn insert(&self, pass: &mut Self::Pass, key: u64, value: u64, races: u64) -> Result<Inserted, InsertFault>
+    fn insert(
+        &self,
+        pass: &mut Self::Pass,
+        key: u64,
+        value: u64,
+        races: u64,
+    ) -> Result<Inserted, InsertFault>
         requires belongs { Belongs self.now pass.old }
         requires idle { Idle pass.old }
         requires may { MayCall (Call.Insert key value) races (pass_view pass.old) }
@@ -157,7 +169,11 @@ pub trait MapCalls: Sized {
     /// # Errors
     ///
     /// There was no memory. The map and its passes come back as they were.
-    fn close(self, alloc: Global, passes: Vec<Self::Pass>) -> Result<Closed<Self::Witness>, CloseFault<Self, Self::Pass>>
+    fn close(
+        self,
+        alloc: Global,
+        passes: Vec<Self::Pass>,
+    ) -> Result<Closed<Self::Witness>, CloseFault<Self, Self::Pass>>
         requires all { length passes.items ≡ (sizes self).passes }
         requires each { AtEach passes.items (λ k p. Belongs self p × Idle p × ((pass_view p).caller ≡ k)) }
         ensures closed { IfOk result (λ c. IsClosing meaning (sizes self) (map pass_view passes.items) c.contents.items c.free.items (run_view c.witness)) }

@@ -12,12 +12,12 @@ ghost use Rattle.pp_model.specs.Pass.{IsFresh};
 ghost use Rattle.pp_model.specs.MapCalls.{IsClosing, get_answer, insert_answer, remove_answer};
 ghost use Rattle.pp_model.specs.Plain.{PlainUnderWay, IsPlainAnswer, plain_meaning, plain_sizes, plain_going, plain_run};
 
+use crate::{
+    Answer, Call, CloseFault, Closed, InsertFault, Inserted, Lost, MapCalls, NoMemory, Pair,
+    Placed, Reply, Turned,
+};
 use std::alloc::Global;
 use std::marker::Model;
-
-use crate::{
-    Answer, Call, CloseFault, Closed, InsertFault, Inserted, Lost, MapCalls, NoMemory, Pair, Placed, Reply, Turned,
-};
 
 /// A map for one caller.
 #[derive(Drop)]
@@ -226,23 +226,38 @@ impl PlainPass {
 
 impl MapCalls for PlainMap {
     type Pass = PlainPass;
+
     type Going = PlainGoing;
+
     type Witness = PlainKept;
 
     ghost meaning = { plain_meaning };
+
     ghost sizes = { λ map. plain_sizes map.records };
+
     ghost pass_view = { λ pass. pass };
+
     ghost going_view = { λ going. plain_going going.call going.races going.start };
+
     ghost run_view = { λ kept. plain_run kept.records kept.placed.items };
+
     ghost Idle = { λ pass. Unit {0} };
+
     ghost Belongs = { λ map pass. pass.share ≡ map.records };
+
     ghost UnderWay = { λ map pass going before. PlainUnderWay going.call going.races going.start pass before };
 
     fn get(&self, pass: &mut PlainPass, key: u64, _races: u64) -> Result<Option<u64>, Lost> {
         Ok(pass.get(key))
     }
 
-    fn insert(&self, pass: &mut PlainPass, key: u64, value: u64, _races: u64) -> Result<Inserted, InsertFault> {
+    fn insert(
+        &self,
+        pass: &mut PlainPass,
+        key: u64,
+        value: u64,
+        _races: u64,
+    ) -> Result<Inserted, InsertFault> {
         pass.insert(key, value)
     }
 

@@ -22,5 +22,5 @@ loop-n-preserved c =
           ∙ (ap (λ ns. ns ++ (c.loop-n.n + 1) ∷ []) c.loop-n.invariant.items
           ∙ (ap (λ k. upto (c.args.below + 1) (c.loop-n.n - c.args.below) ++ k ∷ []) number
           ∙ sym (upto-push (c.args.below + 1) (c.loop-n.n - c.args.below) (c.loop-n.n + 1 - c.args.below) next)));
-      room = omega (arith, c.loop-n.invariant.room, c.push_reserved.ensures.room)
+      room = omega (arith, c.loop-n.invariant.room, c.push_reserved.ensures.room);
     }

@@ -19,7 +19,7 @@ module _ (c : goal.After-drop-passes) where
   only =
       let items = c.in-Some.ensures.items in
       let none : length c.pop.new.self.items ≡ 0 =
-            omega (arith, c.requires.all, ap length items, length-append c.pop.new.self.items (c.in-Some.pass ∷ [])) in
+      omega (arith, c.requires.all, ap length items, length-append c.pop.new.self.items (c.in-Some.pass ∷ [])) in
       items ∙ ap (λ (ps : List PassView). ps ++ c.in-Some.pass ∷ []) (nil_from_length c.pop.new.self.items none)
 
   -- what was read of the first pass is what was taken from it
@@ -40,20 +40,20 @@ returns-clause-closed c =
     let pass = c.pass.inside in
     let many = length pass.pairs.items in
     let kept : c.len-kept.result ≡ length pass.pairs.items =
-          omega (arith, c.len-kept.ensures, ap length (same_pairs c), c.behind-passes.inside.pairs.ok) in
+    omega (arith, c.len-kept.ensures, ap length (same_pairs c), c.behind-passes.inside.pairs.ok) in
     let numbers : c.in-Ok.free.items ≡ upto (c.len-kept.result + 1) (c.args.self.records - c.len-kept.result) = c.in-Ok.ensures in
     let free : c.new.result.free.items ≡ upto (length pass.pairs.items + 1) (pass.records - length pass.pairs.items) =
-          ap (λ (v : Vec ℕ Global). v.items) c.new.ensures.free
-          ∙ (numbers ∙ (ap (λ k. upto (k + 1) (c.args.self.records - k)) kept ∙ ap (λ r. upto (many + 1) (r - many)) (sym (records c)))) in
+    ap (λ (v : Vec ℕ Global). v.items) c.new.ensures.free
+    ∙ (numbers ∙ (ap (λ k. upto (k + 1) (c.args.self.records - k)) kept ∙ ap (λ r. upto (many + 1) (r - many)) (sym (records c)))) in
     let free_items = c.new.result.free.items in
     let closing = plain_closing pass.records pass.calls pass.pairs.items pass.placed.items free_items c.pass.invariant.holds free in
     let view = plain_pass pass.records pass.calls pass.pairs.items pass.placed.items in
     let run = plain_run pass.records pass.placed.items in
     let passes : view ∷ [] ≡ map (λ (p : PassView). p) c.args.passes.items =
-          ap (λ (v : PassView). v ∷ []) c.pass.view_is ∙ sym (ap (map (λ (p : PassView). p)) (only c)) in
+    ap (λ (v : PassView). v ∷ []) c.pass.view_is ∙ sym (ap (map (λ (p : PassView). p)) (only c)) in
     let at_sizes = subst (λ r. IsClosing plain_meaning (plain_sizes r) (view ∷ []) pass.pairs.items free_items run) (records c) closing in
     let at_passes = subst (λ ps. IsClosing plain_meaning (plain_sizes c.args.self.records) ps pass.pairs.items free_items run) passes at_sizes in
     let at_contents = subst (λ (v : Vec Pair Global). IsClosing plain_meaning (plain_sizes c.args.self.records)
-          (map (λ (p : PassView). p) c.args.passes.items) v.items free_items run) (sym c.new.ensures.contents) at_passes in
+    (map (λ (p : PassView). p) c.args.passes.items) v.items free_items run) (sym c.new.ensures.contents) at_passes in
     subst (λ (w : PlainKept). IsClosing plain_meaning (plain_sizes c.args.self.records) (map (λ (p : PassView). p) c.args.passes.items)
-        c.new.result.contents.items free_items (plain_run w.records w.placed.items)) (sym c.new.ensures.witness) at_contents
+    c.new.result.contents.items free_items (plain_run w.records w.placed.items)) (sym c.new.ensures.witness) at_contents

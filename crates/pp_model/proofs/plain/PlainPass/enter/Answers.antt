@@ -32,7 +32,7 @@ invariant_of-self c =
           (holds_unchanged pass.records pass.calls pass.pairs.items pass.placed.items whole.holds (room c) c.args.call c.args.said (right c) c.requires.unchanged);
       counted = whole.counted ∙ sym (ap (λ mine. length (log_of mine)) (items c) ∙ ap length log);
       pairs_room = whole.pairs_room;
-      calls_room = omega (arith, whole.calls_room, c.push_reserved.ensures.room)
+      calls_room = omega (arith, whole.calls_room, c.push_reserved.ensures.room);
     }
 
 pub returns : goal.returns
@@ -40,5 +40,5 @@ returns c =
     let pass = c.self.inside in
     rw (← c.self.view_is)
     (subst (λ (mine : List Placed). IsPlainAnswer c.args.call (plain_pass pass.records pass.calls pass.pairs.items pass.placed.items)
-        (plain_pass pass.records pass.calls pass.pairs.items mine) (Said c.args.said)) (sym (items c))
-        (answers_unchanged pass.records pass.calls pass.pairs.items pass.placed.items c.self.invariant.holds (room c) c.args.call c.args.said (right c) c.requires.unchanged))
+    (plain_pass pass.records pass.calls pass.pairs.items mine) (Said c.args.said)) (sym (items c))
+    (answers_unchanged pass.records pass.calls pass.pairs.items pass.placed.items c.self.invariant.holds (room c) c.args.call c.args.said (right c) c.requires.unchanged))

@@ -10,4 +10,4 @@ returns-then-len-self c =
     let absent = rw c.deref.ensures.value at lacks.absent in
     rw (← c.self.view_is)
     (answers_full pass.records pass.calls pass.pairs.items pass.placed.items c.self.invariant.holds c.args.key c.args.value absent
-        (omega (arith, c.len.ensures, c.if-len-self.true, pass.pairs.ok)))
+    (omega (arith, c.len.ensures, c.if-len-self.true, pass.pairs.ok)))

@@ -57,7 +57,7 @@ invariant_of-self c =
       counted = count_entered pass.records pass.calls pass.changes pass.pairs.items pass.placed.items whole.holds whole.counted (room c) _ _ (right c)
           _ (change c) (after c) (rises c) _ c.push_reserved.ensures.items;
       pairs_room = omega (arith, whole.pairs_room, c.remove-value.ensures.capacity);
-      calls_room = omega (arith, whole.calls_room, c.push_reserved.ensures.room)
+      calls_room = omega (arith, whole.calls_room, c.push_reserved.ensures.room);
     }
 
 pub returns : goal.returns
@@ -66,4 +66,4 @@ returns c =
     let whole = c.self.invariant in
     rw (← c.self.view_is)
     (answers_entered pass.records pass.calls pass.changes pass.pairs.items pass.placed.items whole.holds whole.counted (room c) _ _ (right c)
-        _ (change c) (after c) (rises c) _ c.push_reserved.ensures.items)
+    _ (change c) (after c) (rises c) _ c.push_reserved.ensures.items)
