@@ -3,6 +3,7 @@
 #![tactic(auto)]
 
 pub mod calling;
+pub mod laws;
 pub mod map_calls;
 pub mod plain;
 pub mod steps;
