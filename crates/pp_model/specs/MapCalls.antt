@@ -157,10 +157,11 @@ pub data WentOn (was now : GoingView) : Type 0 where
   keys_narrowed : now.lost ≡ was.lost → now.kind ≡ was.kind → now.upper - now.lower < was.upper - was.lower → WentOn was now
   next_kind : now.lost ≡ was.lost → was.kind < now.kind → WentOn was now
 
--- a going call stays the same call
+-- a going call stays the same call, and one that took effect has taken effect
 pub record SameCall (was now : GoingView) : Type 0 where
   pub call : now.call ≡ was.call
   pub budget : now.budget ≡ was.budget
+  pub struck : was.struck ≡ true → now.struck ≡ true
   pub few : now.kind ≤ 3
   pub high : now.upper ≤ 2 ^ 64
 

@@ -52,13 +52,14 @@ pub record PassView : Type 0 where
   pub chains : ℕ
   pub share : ℕ
 
--- a pass that has done nothing yet
+-- a pass that has done nothing yet: its share is free
 pub record IsFresh (pass : PassView) : Type 0 where
   pub seen : pass.seen ≡ []
   pub mine : pass.mine ≡ []
   pub steps : pass.steps ≡ []
   pub order : pass.order ≡ []
   pub wrote : pass.wrote ≡ 0
+  pub free : length pass.free ≡ pass.share
   pub retired : pass.retired ≡ []
   pub chains : pass.chains ≡ 0
 

@@ -25,6 +25,16 @@ pub struct PlainMap {
     records: u32,
 }
 
+impl Model for PlainMap {
+    ghost use Rattle.pp_model.specs.Pass.{MapSizes};
+
+    ghost Value = { MapSizes };
+
+    ghost use Rattle.pp_model.specs.Plain.{plain_sizes};
+
+    ghost view = { λ map. plain_sizes map.records };
+}
+
 /// The one pass of a plain map. It has the map's pairs, and the list of the calls that were answered by a reply.
 #[derive(Drop)]
 pub struct PlainPass {
@@ -69,7 +79,7 @@ impl PlainMap {
     ///
     /// There was no memory.
     pub fn start(alloc: Global, records: u32, calls: u32) -> Result<(PlainMap, PlainPass), NoMemory>
-        ensures sizes { IfOk result (λ s. s.0.records ≡ records) }
+        ensures sizes { IfOk result (λ s. s.0 ≡ plain_sizes records) }
         ensures fresh { IfOk result (λ s. IsFresh s.1) }
         ensures caller { IfOk result (λ s. s.1.caller ≡ 0) }
         ensures room { IfOk result (λ s. s.1.room ≡ calls) }
@@ -286,7 +296,8 @@ impl MapCalls for PlainMap {
     ) -> Result<Closed<PlainKept>, CloseFault<PlainMap, PlainPass>>
         requires all { length passes.items ≡ (plain_sizes self.records).passes }
         requires each { AtEach passes.items (λ k p. (p.share ≡ self.records) × Unit {0} × (p.caller ≡ k)) }
-        ensures closed { IfOk result (λ c. IsClosing plain_meaning (plain_sizes self.records) (map (λ p. p) passes.items) c.contents.items c.free.items (plain_run c.witness.records c.witness.placed.items)) }
+        ensures closed { IfOk result (λ c. IsClosing plain_meaning (plain_sizes self.records) (map (λ p. p) passes.items) c.contents.items c.free.items
+            (plain_run c.witness.records c.witness.placed.items)) }
         ensures back { IfErr result (λ e. (e.map ≡ self) × (e.passes.items ≡ passes.items)) }
     {
         let mut passes = passes;

@@ -5,7 +5,7 @@ use Rattle.std.proofs.Common.{Global}
 use Rattle.pp_model.specs.declared.plain.PlainKept.{PlainKept}
 use Rattle.pp_model.specs.declared.Pair.{Pair}
 use Rattle.pp_model.specs.declared.Placed.{Placed}
-use Rattle.pp_model.specs.Pass.{PassView}
+use Rattle.pp_model.specs.Pass.{PassView, MapSizes}
 use Rattle.pp_model.specs.Lists.{upto}
 use Rattle.pp_model.specs.History.{contents_of}
 use Rattle.pp_model.specs.MapCalls.{IsClosing}
@@ -41,7 +41,9 @@ returns-clause-closed c =
     let many = length pass.pairs.items in
     let kept : c.len-kept.result ≡ length pass.pairs.items =
     omega (arith, c.len-kept.ensures, ap length (same_pairs c), c.behind-passes.inside.pairs.ok) in
-    let numbers : c.in-Ok.free.items ≡ upto (c.len-kept.result + 1) (c.args.self.records - c.len-kept.result) = c.in-Ok.ensures in
+    let own : c.self.inside.records ≡ c.args.self.records = ap (λ (z : MapSizes). z.records) c.self.view_is in
+    let numbers : c.in-Ok.free.items ≡ upto (c.len-kept.result + 1) (c.args.self.records - c.len-kept.result) =
+          c.in-Ok.ensures ∙ ap (λ r. upto (c.len-kept.result + 1) (r - c.len-kept.result)) own in
     let free : c.new.result.free.items ≡ upto (length pass.pairs.items + 1) (pass.records - length pass.pairs.items) =
     ap (λ (v : Vec ℕ Global). v.items) c.new.ensures.free
     ∙ (numbers ∙ (ap (λ k. upto (k + 1) (c.args.self.records - k)) kept ∙ ap (λ r. upto (many + 1) (r - many)) (sym (records c)))) in
