@@ -1,5 +1,5 @@
 -- What a call does to a finite map, and what it answers.
-use Rattle.std.specs.Prelude.{ℕ, Bool, true, false, List, Option, Some, None}
+use Rattle.std.specs.Prelude.{ℕ, ◌+◌, Bool, true, false, List, [], ◌∷◌, Option, Some, None}
 use Rattle.pp_model.specs.declared.Call.{Call}
 use Rattle.pp_model.specs.declared.Call.TheVariants.{Get, Insert, Remove}
 use Rattle.pp_model.specs.declared.Reply.{Reply}
@@ -45,3 +45,10 @@ changes Absent = false
 changes Added = true
 changes (Held v) = false
 changes (Took v) = true
+
+-- how many of these calls are inserts
+abbrev pub inserts : List Call → ℕ
+inserts [] = 0
+inserts (Get k ∷ calls) = inserts calls
+inserts (Insert k v ∷ calls) = inserts calls + 1
+inserts (Remove k ∷ calls) = inserts calls

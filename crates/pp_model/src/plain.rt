@@ -372,3 +372,58 @@ fn numbers(alloc: Global, below: u32, last: u32) -> Result<Vec<u32>, NoMemory>
     }
     Ok(numbers)
 }
+
+#[cfg(test)]
+mod tests {
+    use super::*;
+    use crate::calling::answer_all;
+    use crate::laws::linearization_is_legal;
+    use std::test::Fail;
+
+    #[test]
+    fn answers_calls_in_turn(rt: HostRuntime) -> Result<(), Fail> {
+        let alloc = rt.alloc();
+        let Ok((map, mut pass)) = PlainMap::start(alloc, 8, 5) else {
+            panic!(rt; "no memory");
+        };
+        let calls = [
+            Call::Insert { key: 7, value: 70 },
+            Call::Get { key: 7 },
+            Call::Insert { key: 7, value: 71 },
+            Call::Remove { key: 7 },
+            Call::Get { key: 7 },
+        ];
+        let mut answers = Vec::with_capacity(alloc, 5)?;
+        answer_all(&map, &mut pass, &calls, 1, &mut answers);
+        let wanted = [
+            Answer::Said(Reply::Added),
+            Answer::Said(Reply::Value(70)),
+            Answer::Said(Reply::Held(70)),
+            Answer::Said(Reply::Took(70)),
+            Answer::Said(Reply::Absent),
+        ];
+        assert_eq!(rt; answers.as_slice(), wanted.as_slice());
+        linearization_is_legal();
+        Ok(())
+    }
+
+    #[test]
+    fn fills_and_closes(rt: HostRuntime) -> Result<(), Fail> {
+        let alloc = rt.alloc();
+        let Ok((map, mut pass)) = PlainMap::start(alloc, 2, 4) else {
+            panic!(rt; "no memory");
+        };
+        assert_eq!(rt; map.insert(&mut pass, 4, 40, 1), Ok(Inserted::Added));
+        assert_eq!(rt; map.insert(&mut pass, 3, 30, 1), Ok(Inserted::Added));
+        assert_eq!(rt; map.insert(&mut pass, 5, 50, 1), Err(InsertFault::Full));
+        assert_eq!(rt; map.remove(&mut pass, 4, 1), Ok(Some(40)));
+        assert_eq!(rt; map.get(&mut pass, 3, 1), Ok(Some(30)));
+        let passes = vec![in alloc; pass]?;
+        let Ok(closed) = map.close(alloc, passes) else {
+            panic!(rt; "no memory");
+        };
+        assert_eq!(rt; closed.contents(), [Pair { key: 3, value: 30 }].as_slice());
+        assert_eq!(rt; closed.free(), [2].as_slice());
+        Ok(())
+    }
+}
