@@ -410,7 +410,7 @@ mod tests {
     #[test]
     fn fills_and_closes(rt: HostRuntime) -> Result<(), Fail> {
         let alloc = rt.alloc();
-        let Ok((map, mut pass)) = PlainMap::start(alloc, 2, 4) else {
+        let Ok((map, mut pass)) = PlainMap::start(alloc, 2, 5) else {
             panic!(rt; "no memory");
         };
         assert_eq!(rt; map.insert(&mut pass, 4, 40, 1), Ok(Inserted::Added));
