@@ -2,16 +2,18 @@
 --
 -- Idea: give each placed call a rank, so that the linearization takes the ranks in turn. Along a list that stands in the log the
 -- ranks never fall, and picking a list's calls rank by rank gives the list back.
-use Rattle.std.proofs.Common.{◌≡◌, ℕ, zero, suc, ◌+◌, ◌*◌, ◌<◌, ◌≤◌, Bool, true, false, cond, not, ◌&&◌, eqb, List, [], ◌∷◌, ◌++◌, length, map, Option, Some, None, ⊎_elim, ◌⊎◌, inl, inr, refl, sym, ap, ◌∙◌, subst, arith, append_assoc, append-nil, eq-eqb, ne_eqb}
+use Rattle.std.proofs.Common.{◌≡◌, ℕ, zero, suc, ◌+◌, ◌*◌, ◌<◌, ◌≤◌, Bool, true, false, cond, eqb, List, [], ◌∷◌, ◌++◌, length}
+use Rattle.std.proofs.Common.{map, Some, ⊎_elim, refl, sym, ap, ◌∙◌, subst, arith, append-nil}
+use Rattle.std.proofs.Common.{eq-eqb, ne_eqb}
 use Rattle.std.specs.Prelude.{slice_get}
-use Rattle.std.proofs.lemmas.Bool.{cases_eq, cases_lt, cases_Bool, true≢false}
-use Rattle.std.proofs.lemmas.Bool.Decides.{nat_tests}
+use Rattle.std.proofs.lemmas.Bool.{cases_eq, cases_Bool}
 use Rattle.pp_model.specs.declared.Change.{Change}
 use Rattle.pp_model.specs.declared.Placed.{Placed}
 use Rattle.pp_model.specs.Lists.{AtEach, RisesFrom}
 use Rattle.pp_model.specs.Calls.{changes}
-use Rattle.pp_model.specs.History.{Fits, Follows, Stands}
-use Rattle.pp_model.specs.Linearization.{CallerList, HistoryCall, history_call, stands_at, calls_at, all_calls_at, linearized_from, linearization, calls_of, callers_of, IsRecordedRun, IsHistory}
+use Rattle.pp_model.specs.History.{Fits, Follows}
+use Rattle.pp_model.specs.Linearization.{CallerList, HistoryCall, history_call, stands_at, calls_at, all_calls_at, linearized_from}
+use Rattle.pp_model.specs.Linearization.{linearization, calls_of, callers_of, IsRecordedRun, IsHistory}
 use Rattle.pp_model.proofs.Histories.{fits_within}
 use Rattle.pp_model.proofs.Linearizations.{low_caller, as_change, callers_known, legal_from}
 
@@ -47,15 +49,18 @@ same_test a b c d there back =
 change_rank : (p : ℕ) (s : Placed) → stands_at true (p + 1) s ≡ eqb (rank s) (2 * p + 2)
 change_rank p s =
     ⊎_elim
-    (λ (change : changes s.reply ≡ true). rw change (same_test s.place (p + 1) (2 * s.place) (2 * p + 2) (λ e. omega arith) (λ e. omega arith)))
-    (λ (none : changes s.reply ≡ false). let apart : eqb (2 * s.place + 1) (2 * p + 2) ≡ false = ne_eqb (2 * s.place + 1) (2 * p + 2) (λ e. omega arith) in
+    (λ (change : changes s.reply ≡ true). rw change (same_test s.place (p + 1) (2 * s.place) (2 * p + 2) (λ e. omega arith)
+    (λ e. omega arith)))
+    (λ (none : changes s.reply ≡ false). let apart : eqb (2 * s.place + 1) (2 * p + 2) ≡ false =
+    ne_eqb (2 * s.place + 1) (2 * p + 2) (λ e. omega arith) in
     rw (none, apart) refl)
     (cases_Bool (changes s.reply))
 
 other_rank : (p : ℕ) (s : Placed) → stands_at false p s ≡ eqb (rank s) (2 * p + 1)
 other_rank p s =
     ⊎_elim
-    (λ (change : changes s.reply ≡ true). let apart : eqb (2 * s.place) (2 * p + 1) ≡ false = ne_eqb (2 * s.place) (2 * p + 1) (λ e. omega arith) in
+    (λ (change : changes s.reply ≡ true). let apart : eqb (2 * s.place) (2 * p + 1) ≡ false =
+    ne_eqb (2 * s.place) (2 * p + 1) (λ e. omega arith) in
     rw (change, apart) refl)
     (λ (none : changes s.reply ≡ false). rw none (same_test s.place p (2 * s.place + 1) (2 * p + 1) (λ e. omega arith) (λ e. omega arith)))
     (cases_Bool (changes s.reply))
@@ -96,7 +101,8 @@ linearized_ranked (suc n) p r e lists =
     let ih = linearized_ranked n (p + 1) (suc (suc r)) (omega arith) lists in
     ap (λ xs. xs ++ (all_calls_at true (p + 1) lists ++ linearized_from (p + 1) n lists)) (all_ranked false p r lists here)
     ∙ ap (λ xs. all_at_rank r lists ++ xs)
-    (ap (λ xs. xs ++ linearized_from (p + 1) n lists) (all_ranked true (p + 1) (suc r) lists next) ∙ ap (λ xs. all_at_rank (suc r) lists ++ xs) ih)
+    (ap (λ xs. xs ++ linearized_from (p + 1) n lists) (all_ranked true (p + 1) (suc r) lists next)
+    ∙ ap (λ xs. all_at_rank (suc r) lists ++ xs) ih)
 
 calls_of-append : (caller : ℕ) (xs ys : List HistoryCall) → calls_of caller (xs ++ ys) ≡ calls_of caller xs ++ calls_of caller ys
 calls_of-append caller [] ys = refl
@@ -127,7 +133,8 @@ calls_of_other r caller other (s ∷ mine) apart =
     (λ (none : eqb (rank s) r ≡ false). rw none ih)
     (cases_Bool (eqb (rank s) r))
 
-calls_of_none : (r caller low : ℕ) (lists : List CallerList) → RisesFrom low (callers_of lists) → caller < low → calls_of caller (all_at_rank r lists) ≡ []
+calls_of_none : (r caller low : ℕ) (lists : List CallerList) → RisesFrom low (callers_of lists) → caller < low
+    → calls_of caller (all_at_rank r lists) ≡ []
 calls_of_none r caller low [] rise lt = refl
 calls_of_none r caller low (l ∷ lists) rise lt =
     let rest = calls_of_none r caller (l.caller + 1) lists rise.1 (omega (arith, rise.0)) in
@@ -160,7 +167,8 @@ calls_of_ranked (suc m) r k lists l rise e =
     ∙ ap (λ xs. at_rank r l.caller l.mine ++ xs) (calls_of_ranked m (suc r) k lists l rise e))
 
 -- a call below all ranks that are to come is left out
-own_skips : (m r caller : ℕ) (s : Placed) (mine : List Placed) → rank s < r → own_by_rank r m caller (s ∷ mine) ≡ own_by_rank r m caller mine
+own_skips : (m r caller : ℕ) (s : Placed) (mine : List Placed) → rank s < r
+    → own_by_rank r m caller (s ∷ mine) ≡ own_by_rank r m caller mine
 own_skips zero r caller s mine lt = refl
 own_skips (suc m) r caller s mine lt =
     let test : eqb (rank s) r ≡ false = ne_eqb (rank s) r (λ e. omega arith) in
@@ -224,7 +232,8 @@ rank_follows s t follows =
     (cases_Bool (changes t.reply))
 
 -- a call that fits has one of the ranks of the log
-rank_within : (log : List Change) (caller number m : ℕ) (s : Placed) → m ≡ 2 * length log → Fits log caller number s → (1 ≤ rank s) × (rank s < 1 + suc m)
+rank_within : (log : List Change) (caller number m : ℕ) (s : Placed) → m ≡ 2 * length log → Fits log caller number s
+    → (1 ≤ rank s) × (rank s < 1 + suc m)
 rank_within log caller number m s e fits =
     let within = fits_within log caller number s fits in
     ⊎_elim

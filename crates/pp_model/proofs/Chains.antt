@@ -1,5 +1,6 @@
 -- What a chain of calls on one pass leaves.
-use Rattle.std.proofs.Common.{◌≡◌, ℕ, zero, suc, ◌+◌, ◌*◌, ◌<◌, ◌≤◌, List, [], ◌∷◌, ◌++◌, length, map, refl, sym, ap, ◌∙◌, arith, length-append, append_assoc, append-nil, ◌⊎◌, ⊎_elim, Option, Some}
+use Rattle.std.proofs.Common.{◌≡◌, ℕ, ◌+◌, ◌*◌, ◌≤◌, List, [], ◌∷◌, ◌++◌, length, map, refl, sym, ap, ◌∙◌, arith}
+use Rattle.std.proofs.Common.{length-append, append_assoc, append-nil, ⊎_elim, Some}
 use Rattle.std.specs.Prelude.{slice_get}
 use Rattle.std.proofs.lemmas.List.{map-append}
 use Rattle.pp_model.specs.declared.Call.{Call}
@@ -7,10 +8,10 @@ use Rattle.pp_model.specs.declared.Call.TheVariants.{Get, Insert, Remove}
 use Rattle.pp_model.specs.Calls.{inserts}
 use Rattle.pp_model.specs.declared.Answer.{Answer}
 use Rattle.pp_model.specs.declared.Answer.TheVariants.{Said, Full, Lost}
-use Rattle.pp_model.specs.declared.Placed.{Placed}
 use Rattle.pp_model.specs.Lists.{IsPrefix, AtEach}
 use Rattle.pp_model.specs.Pass.{PassView, MapSizes, Meaning}
-use Rattle.pp_model.specs.MapCalls.{Says, PlacesReply, AnswersCall, AnswersCalls, none, more, SaidCall, said_call, said_calls, MineGrew, StandsIn, LeavesPurse}
+use Rattle.pp_model.specs.MapCalls.{Says, AnswersCalls, none, more, SaidCall, said_call, said_calls, MineGrew}
+use Rattle.pp_model.specs.MapCalls.{StandsIn, LeavesPurse}
 use Rattle.pp_model.proofs.Histories.{slice_get_push}
 
 pub IsPrefix-refl : {A : Type 0} → (xs : List A) → IsPrefix xs xs
@@ -24,7 +25,13 @@ pub answers_each : (meaning : Meaning) (sizes : MapSizes) (budget : ℕ) (before
     → AnswersCalls meaning sizes budget before calls answers now → length answers ≡ length calls
 answers_each meaning sizes budget before now calls answers none = refl
 answers_each meaning sizes budget before now calls answers (more cs given then_at _ call answer ran made) =
-    omega (arith, answers_each meaning sizes budget before then_at cs given ran, length-append cs (call ∷ []), length-append given (answer ∷ []))
+    omega (
+      arith,
+      answers_each meaning sizes budget before then_at cs given ran,
+      length-append cs (call ∷ []),
+      length-append given
+          (answer ∷ []),
+    )
 
 pub caller_kept : (meaning : Meaning) (sizes : MapSizes) (budget : ℕ) (before now : PassView) (calls : List Call) (answers : List Answer)
     → AnswersCalls meaning sizes budget before calls answers now → now.caller ≡ before.caller
@@ -94,7 +101,8 @@ inserts-push (Insert k v ∷ calls) call = omega (arith, inserts-push calls call
 inserts-push (Remove k ∷ calls) call = inserts-push calls call
 
 -- one call spends no more than an insert needs
-free_step : (meaning : Meaning) (sizes : MapSizes) (call : Call) (before now : PassView) (rest : ℕ) → LeavesPurse meaning sizes call before now
+free_step : (meaning : Meaning) (sizes : MapSizes) (call : Call) (before now : PassView) (rest : ℕ)
+    → LeavesPurse meaning sizes call before now
     → before.share ≤ length before.free + rest → before.share ≤ length now.free + (meaning.need * inserts (call ∷ []) + rest)
 free_step meaning sizes (Get k) before now rest purse enough = omega (arith, enough, ap length purse.free)
 free_step meaning sizes (Insert k v) before now rest purse enough = omega (arith, enough, purse.kept)
@@ -116,7 +124,7 @@ free_left meaning sizes budget before now calls answers (more cs given then_at _
     let share = share_kept meaning sizes budget before then_at cs given ran in
     let step = free_step meaning sizes call then_at now (meaning.need * inserts cs) made.purse (omega (arith, ih, share)) in
     let spent : meaning.need * inserts (cs ++ call ∷ []) ≡ meaning.need * inserts (call ∷ []) + meaning.need * inserts cs =
-          ap (λ n. meaning.need * n) (inserts-push cs call) ∙ omega arith in
+    ap (λ n. meaning.need * n) (inserts-push cs call) ∙ omega arith in
     omega (arith, step, share, spent)
 
 -- An insert that answers full had too few free numbers; a pass that has enough for all its inserts never gives that answer.
@@ -126,15 +134,17 @@ pub never_full : (meaning : Meaning) (sizes : MapSizes) (budget : ℕ) (before n
 never_full meaning sizes budget before now calls answers none whole enough k a at is = absurd cc
 never_full meaning sizes budget before now calls answers (more cs given then_at _ call answer ran made) whole enough k a at is =
     let spent : meaning.need * inserts (cs ++ call ∷ []) ≡ meaning.need * inserts cs + meaning.need * inserts (call ∷ []) =
-          ap (λ n. meaning.need * n) (inserts-push cs call) ∙ omega arith in
+    ap (λ n. meaning.need * n) (inserts-push cs call) ∙ omega arith in
     ⊎_elim
     (λ (old : slice_get given k ≡ Some a).
-        never_full meaning sizes budget before then_at cs given ran whole (omega (arith, spent, enough)) k a old is)
+    never_full meaning sizes budget before then_at cs given ran whole (omega (arith, spent, enough)) k a old is)
     (λ (new : (k ≡ length given) × (a ≡ answer)).
-        last call answer made.says (omega (arith, spent, enough, free_left meaning sizes budget before then_at cs given ran whole)) (sym new.1 ∙ is))
+    last call answer made.says (omega (arith, spent, enough, free_left meaning sizes budget before then_at cs given ran whole))
+    (sym new.1 ∙ is))
     (slice_get_push given answer k a at)
   where
-    last : (c : Call) (b : Answer) → Says meaning sizes c then_at now b → meaning.need * inserts (c ∷ []) ≤ length then_at.free → b ≡ Full → ⊥
+    last : (c : Call) (b : Answer) → Says meaning sizes c then_at now b → meaning.need * inserts (c ∷ []) ≤ length then_at.free
+        → b ≡ Full → ⊥
     last (Insert i v) Full says free e = omega (arith, says.short, free)
     last (Get i) Full says free e = let same = says.inserts.2 in cc
     last (Remove i) Full says free e = let same = says.inserts.2 in cc

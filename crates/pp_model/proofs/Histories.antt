@@ -1,16 +1,18 @@
 -- Lemmas on a log that grows and on lists that stand in it. Every map that keeps a log cites them.
-use Rattle.std.proofs.Common.{◌≡◌, ℕ, zero, suc, ◌+◌, ◌<◌, ◌≤◌, Bool, true, false, cond, eqb, List, [], ◌∷◌, ◌++◌, length, take, Option, Some, None, ⊎_elim, ◌⊎◌, inl, inr, refl, sym, ap, ◌∙◌, subst, arith, length-append, append_assoc, append-nil, take_all, eq-eqb, ne_eqb}
+use Rattle.std.proofs.Common.{◌≡◌, ℕ, zero, suc, ◌+◌, ◌<◌, ◌≤◌, Bool, true, false, eqb, List, [], ◌∷◌, ◌++◌, length}
+use Rattle.std.proofs.Common.{Some, ⊎_elim, ◌⊎◌, inl, inr, refl, sym, ap, ◌∙◌, subst, arith, length-append}
+use Rattle.std.proofs.Common.{append-nil, take_all, eq-eqb, ne_eqb}
 use Rattle.std.specs.Prelude.{slice_get}
-use Rattle.std.proofs.lemmas.Bool.{cases_eq, cases_lt, cases_Bool, true≢false}
+use Rattle.std.proofs.lemmas.Bool.{cases_eq, cases_Bool, true≢false}
 use Rattle.std.proofs.lemmas.List.{take-append-le}
 use Rattle.std.proofs.lemmas.Option.{slice_get_within}
-use Rattle.pp_model.specs.declared.Call.{Call}
 use Rattle.pp_model.specs.declared.Change.{Change}
 use Rattle.pp_model.specs.declared.Placed.{Placed}
 use Rattle.pp_model.specs.declared.Pair.{Pair}
-use Rattle.pp_model.specs.Lists.{AtEach, IsPrefix}
+use Rattle.pp_model.specs.Lists.{AtEach}
 use Rattle.pp_model.specs.Calls.{reply, map_after, changes}
-use Rattle.pp_model.specs.History.{run_from, after, contents_of, Sound, change_of, FitsAsChange, FitsUnchanged, FitsBy, Fits, places_from, places_in, places_of, Follows, Stands}
+use Rattle.pp_model.specs.History.{run_from, after, contents_of, Sound, change_of, FitsAsChange, FitsUnchanged, FitsBy, Fits, places_from}
+use Rattle.pp_model.specs.History.{places_of, Follows, Stands}
 
 -- an element of the front of a longer list
 pub slice_get-append_left : {A : Type 0} → (xs ys : List A) (k : ℕ) → k < length xs → slice_get (xs ++ ys) k ≡ slice_get xs k

@@ -1,24 +1,26 @@
 -- The linearization of a recorded run is a legal history with each caller's calls in their order.
-use Rattle.std.proofs.Common.{◌≡◌, ℕ, zero, suc, ◌+◌, ◌*◌, ◌<◌, ◌≤◌, Bool, true, false, cond, not, ◌&&◌, eqb, List, [], ◌∷◌, ◌++◌, length, map, take, Option, Some, None, ⊎_elim, ◌⊎◌, inl, inr, refl, sym, ap, ◌∙◌, subst, arith, length-append, append_assoc, append-nil, take_all, eq-eqb, ne_eqb}
+use Rattle.std.proofs.Common.{◌≡◌, ℕ, zero, suc, ◌+◌, ◌<◌, ◌≤◌, Bool, true, false, cond, not, eqb, List, [], ◌∷◌, ◌++◌, length}
+use Rattle.std.proofs.Common.{take, Option, Some, None, ⊎_elim, refl, sym, ap, ◌∙◌, subst, arith, length-append}
+use Rattle.std.proofs.Common.{append-nil, eq-eqb, ne_eqb}
 use Rattle.std.specs.Prelude.{slice_get}
-use Rattle.std.proofs.lemmas.Bool.{cases_eq, cases_lt, cases_Bool, true≢false, and_parts, eqb-true, not-true}
-use Rattle.std.proofs.lemmas.Bool.Decides.{nat_tests}
-use Rattle.std.proofs.lemmas.Option.{slice_get_within}
+use Rattle.std.proofs.lemmas.Bool.{cases_eq, cases_Bool, true≢false, and_parts, eqb-true, not-true}
 use Rattle.pp_model.specs.declared.Call.{Call}
 use Rattle.pp_model.specs.declared.Call.TheVariants.{Get, Insert, Remove}
-use Rattle.pp_model.specs.declared.Reply.{Reply}
 use Rattle.pp_model.specs.declared.Change.{Change}
 use Rattle.pp_model.specs.declared.Placed.{Placed}
 use Rattle.pp_model.specs.declared.Pair.{Pair}
 use Rattle.pp_model.specs.Lists.{AtEach, RisesFrom, times}
 use Rattle.pp_model.specs.FiniteMap.{find}
 use Rattle.pp_model.specs.Calls.{key_of, reply, reply_at, map_after, map_after_at, changes}
-use Rattle.pp_model.specs.History.{run_from, after, Sound, change_of, FitsAsChange, FitsUnchanged, FitsBy, Fits, places_from, places_in, places_of, Follows, Stands}
-use Rattle.pp_model.specs.Linearization.{CallerList, HistoryCall, history_call, LegalFrom, Legal, stands_at, calls_at, all_calls_at, linearized_from, linearization, calls_of, callers_of, HasList, IsRecordedRun, IsHistory}
-use Rattle.pp_model.proofs.Histories.{run_from-append, fits_within}
+use Rattle.pp_model.specs.History.{run_from, after, change_of, FitsAsChange, FitsUnchanged, FitsBy, Fits, places_from, places_in}
+use Rattle.pp_model.specs.History.{places_of, Stands}
+use Rattle.pp_model.specs.Linearization.{CallerList, HistoryCall, history_call, LegalFrom, stands_at, calls_at, all_calls_at}
+use Rattle.pp_model.specs.Linearization.{linearized_from, callers_of, HasList, IsRecordedRun}
+use Rattle.pp_model.proofs.Histories.{run_from-append}
 
 -- what holds of each element of two lists holds of each of both
-each_append : {A : Type 0} (P : A → Type 0) (xs ys : List A) → AtEach xs (λ _ x. P x) → AtEach ys (λ _ x. P x) → AtEach (xs ++ ys) (λ _ x. P x)
+each_append : {A : Type 0} (P : A → Type 0) (xs ys : List A) → AtEach xs (λ _ x. P x) → AtEach ys (λ _ x. P x)
+    → AtEach (xs ++ ys) (λ _ x. P x)
 each_append P [] ys front back i x e = back i x e
 each_append P (y ∷ xs) ys front back zero x e = front 0 x e
 each_append P (y ∷ xs) ys front back (suc i) x e = each_append P xs ys (λ k z at. front (suc k) z at) back i x e
@@ -55,9 +57,11 @@ callers_at change q lists =
 pub callers_known : (p n : ℕ) (lists : List CallerList) → AtEach (linearized_from p n lists) (λ _ s. HasList s.caller lists)
 callers_known p zero lists = callers_at false p lists
 callers_known p (suc n) lists =
-    each_append (λ s. HasList s.caller lists) (all_calls_at false p lists) (all_calls_at true (p + 1) lists ++ linearized_from (p + 1) n lists)
+    each_append (λ s. HasList s.caller lists) (all_calls_at false p lists)
+    (all_calls_at true (p + 1) lists ++ linearized_from (p + 1) n lists)
     (callers_at false p lists)
-    (each_append (λ s. HasList s.caller lists) (all_calls_at true (p + 1) lists) (linearized_from (p + 1) n lists) (callers_at true (p + 1) lists)
+    (each_append (λ s. HasList s.caller lists) (all_calls_at true (p + 1) lists) (linearized_from (p + 1) n lists)
+    (callers_at true (p + 1) lists)
     (callers_known (p + 1) n lists))
 
 -- a reply that says no change leaves the map
@@ -91,7 +95,8 @@ legal_unchanged m (s ∷ xs) ys each legal =
     (here.0, subst (λ n. LegalFrom n (xs ++ ys)) (sym here.1) (legal_unchanged m xs ys (λ k t at. each (suc k) t at) legal))
 
 -- one call that changes the map to another
-legal_change : (m m' : List Pair) (xs ys : List HistoryCall) → length xs ≡ 1 → AtEach xs (λ _ s. (reply m s.call ≡ s.reply) × (map_after m s.call ≡ m'))
+legal_change : (m m' : List Pair) (xs ys : List HistoryCall) → length xs ≡ 1
+    → AtEach xs (λ _ s. (reply m s.call ≡ s.reply) × (map_after m s.call ≡ m'))
     → LegalFrom m' ys → LegalFrom m (xs ++ ys)
 legal_change m m' [] ys one each legal = absurd (omega arith)
 legal_change m m' (s ∷ []) ys one each legal =
@@ -146,14 +151,16 @@ times_places base (suc i) caller (d ∷ log) c e =
     (cases_Bool (eqb d.caller caller))
 
 -- a caller that stands in the lists has at least the first number
-pub low_caller : (low k : ℕ) (lists : List CallerList) (l : CallerList) → RisesFrom low (callers_of lists) → slice_get lists k ≡ Some l → low ≤ l.caller
+pub low_caller : (low k : ℕ) (lists : List CallerList) (l : CallerList) → RisesFrom low (callers_of lists) → slice_get lists k ≡ Some l
+    → low ≤ l.caller
 low_caller low k [] l r e = absurd cc
 low_caller low zero (m ∷ lists) l r e = let is : m ≡ l = cc in omega (arith, r.0, ap (λ (x : CallerList). x.caller) is)
 low_caller low (suc k) (m ∷ lists) l r e = omega (arith, r.0, low_caller (m.caller + 1) k lists l r.1 e)
 
 module _ (log : List Change) (p : ℕ) (c : Change) (logged : slice_get log p ≡ Some c) where
   -- a caller's list has one change at the place of its own change, and none at another caller's
-  count_at : (caller : ℕ) (mine : List Placed) → Stands log caller mine → length (calls_at true (p + 1) caller mine) ≡ cond (eqb c.caller caller) 1 0
+  count_at : (caller : ℕ) (mine : List Placed) → Stands log caller mine
+      → length (calls_at true (p + 1) caller mine) ≡ cond (eqb c.caller caller) 1 0
   count_at caller mine stands =
       let number : p + 1 ≡ 0 + p + 1 = omega arith in
       length-calls_at (p + 1) caller mine
@@ -189,16 +196,20 @@ module _ (log : List Change) (p : ℕ) (c : Change) (logged : slice_get log p �
       omega (arith, none, rest, length-append (calls_at true (p + 1) m.caller m.mine) (all_calls_at true (p + 1) lists))
 
 -- a placed change that fits stands in the log at its place
-pub as_change : (log : List Change) (caller number : ℕ) (s : Placed) → changes s.reply ≡ true → Fits log caller number s → FitsAsChange log caller number s
+pub as_change : (log : List Change) (caller number : ℕ) (s : Placed) → changes s.reply ≡ true → Fits log caller number s
+    → FitsAsChange log caller number s
 as_change log caller number s change fits = subst (λ b. FitsBy b log caller number s) change fits
 
-as_unchanged : (log : List Change) (caller number : ℕ) (s : Placed) → changes s.reply ≡ false → Fits log caller number s → FitsUnchanged log s
+as_unchanged : (log : List Change) (caller number : ℕ) (s : Placed) → changes s.reply ≡ false → Fits log caller number s
+    → FitsUnchanged log s
 as_unchanged log caller number s none fits = subst (λ b. FitsBy b log caller number s) none fits
 
 module _ (log : List Change) (lists : List CallerList) (run : IsRecordedRun log lists) where
   -- the calls that changed nothing are right at their place, and leave the map
-  unchanged_here : (p : ℕ) → AtEach (all_calls_at false p lists) (λ _ s. (reply (after log p) s.call ≡ s.reply) × (map_after (after log p) s.call ≡ after log p))
-  unchanged_here p = each_at_all (λ s. (reply (after log p) s.call ≡ s.reply) × (map_after (after log p) s.call ≡ after log p)) false p lists (λ k l at i s got here.
+  unchanged_here : (p : ℕ) → AtEach (all_calls_at false p lists)
+      (λ _ s. (reply (after log p) s.call ≡ s.reply) × (map_after (after log p) s.call ≡ after log p))
+  unchanged_here p = each_at_all (λ s. (reply (after log p) s.call ≡ s.reply) × (map_after (after log p) s.call ≡ after log p)) false p
+      lists (λ k l at i s got here.
       let parts = and_parts (not (changes s.reply)) (eqb s.place p) here in
       let none : changes s.reply ≡ false = not-true (changes s.reply) parts.0 in
       let place : s.place ≡ p = eqb-true s.place p parts.1 in
@@ -207,8 +218,10 @@ module _ (log : List Change) (lists : List CallerList) (run : IsRecordedRun log 
       (right, map_after_unchanged (after log p) s.call (ap changes right ∙ none)))
 
   -- the change at a place is right before it, and leads to the next map
-  change_here : (p : ℕ) → AtEach (all_calls_at true (p + 1) lists) (λ _ s. (reply (after log p) s.call ≡ s.reply) × (map_after (after log p) s.call ≡ after log (p + 1)))
-  change_here p = each_at_all (λ s. (reply (after log p) s.call ≡ s.reply) × (map_after (after log p) s.call ≡ after log (p + 1))) true (p + 1) lists (λ k l at i s got here.
+  change_here : (p : ℕ) → AtEach (all_calls_at true (p + 1) lists)
+      (λ _ s. (reply (after log p) s.call ≡ s.reply) × (map_after (after log p) s.call ≡ after log (p + 1)))
+  change_here p = each_at_all (λ s. (reply (after log p) s.call ≡ s.reply) × (map_after (after log p) s.call ≡ after log (p + 1))) true
+      (p + 1) lists (λ k l at i s got here.
       let parts = and_parts (changes s.reply) (eqb s.place (p + 1)) here in
       let place : s.place ≡ p + 1 = eqb-true s.place (p + 1) parts.1 in
       let fits = as_change log l.caller (i + 1) s parts.0 ((run.stand k l at).each i s got) in
@@ -224,9 +237,12 @@ module _ (log : List Change) (lists : List CallerList) (run : IsRecordedRun log 
   legal_from (suc n) p e =
       let c = logged log p (omega arith) in
       let own = run.known p c.0 c.1 in
-      let one = count_one log p c.0 c.1 0 own.position lists (record { caller = c.0.caller; mine = own.mine }) run.rise own.is_one refl run.stand in
-      legal_unchanged (after log p) (all_calls_at false p lists) (all_calls_at true (p + 1) lists ++ linearized_from (p + 1) n lists) (unchanged_here p)
-      (legal_change (after log p) (after log (p + 1)) (all_calls_at true (p + 1) lists) (linearized_from (p + 1) n lists) one (change_here p)
+      let one = count_one log p c.0 c.1 0 own.position lists (record { caller = c.0.caller; mine = own.mine }) run.rise own.is_one refl
+      run.stand in
+      legal_unchanged (after log p) (all_calls_at false p lists) (all_calls_at true (p + 1) lists ++ linearized_from (p + 1) n lists)
+      (unchanged_here p)
+      (legal_change (after log p) (after log (p + 1)) (all_calls_at true (p + 1) lists) (linearized_from (p + 1) n lists) one
+      (change_here p)
       (legal_from n (p + 1) (omega arith)))
     where
       logged : (xs : List Change) (i : ℕ) → i < length xs → (x : Change) × (slice_get xs i ≡ Some x)

@@ -1,5 +1,6 @@
 -- Lemmas on finite maps with rising keys.
-use Rattle.std.proofs.Common.{◌≡◌, ℕ, zero, suc, ◌+◌, ◌<◌, ◌≤◌, cond, List, [], ◌∷◌, length, get_or, Option, Some, None, Result, Ok, Err, IfOk, IfErr, false, true, eqb, ltb, ⊎_elim, refl, sym, ap, ◌∙◌, arith, ne_eqb, eq-eqb, lt-ltb, le-ltb}
+use Rattle.std.proofs.Common.{◌≡◌, ℕ, zero, suc, ◌+◌, ◌<◌, ◌≤◌, List, [], ◌∷◌, length, get_or, Some, None, Result, Ok, Err}
+use Rattle.std.proofs.Common.{IfOk, IfErr, false, true, eqb, ltb, ⊎_elim, refl, sym, ap, ◌∙◌, arith, ne_eqb, eq-eqb, lt-ltb, le-ltb}
 use Rattle.std.specs.Prelude.{slice_get, insert, remove}
 use Rattle.std.specs.List.Sorted.{IsSearchInRange, IsBinarySearchResult, IsNonDecreasingBy}
 use Rattle.std.specs.Ordering.{nat_cmp, ordering_index}

@@ -1,5 +1,7 @@
 -- What an entered call leaves of a pass of the plain map.
-use Rattle.std.proofs.Common.{◌≡◌, ℕ, zero, suc, ◌+◌, ◌-◌, ◌*◌, ◌<◌, ◌≤◌, min, Bool, true, false, cond, eqb, List, [], ◌∷◌, ◌++◌, length, take, drop, Option, Some, None, ⊎_elim, inl, inr, refl, sym, ap, ◌∙◌, subst, arith, length-append, append-nil, take-append-drop, eq-eqb, ne_eqb}
+use Rattle.std.proofs.Common.{◌≡◌, ℕ, zero, suc, ◌+◌, ◌-◌, ◌<◌, ◌≤◌, true, false, eqb, List, [], ◌∷◌, ◌++◌, length}
+use Rattle.std.proofs.Common.{take, drop, Some, None, ⊎_elim, inl, refl, sym, ap, ◌∙◌, subst, arith, length-append}
+use Rattle.std.proofs.Common.{append-nil, take-append-drop, eq-eqb, ne_eqb}
 use Rattle.std.specs.Prelude.{slice_get}
 use Rattle.std.proofs.lemmas.Bool.{cases_Bool, cases_eq, cases_lt, true≢false}
 use Rattle.pp_model.specs.declared.Call.{Call}
@@ -11,12 +13,14 @@ use Rattle.pp_model.specs.declared.Change.{Change}
 use Rattle.pp_model.specs.declared.Placed.{Placed}
 use Rattle.pp_model.specs.declared.Pair.{Pair}
 use Rattle.pp_model.specs.Lists.{upto, times, RisesFrom, IsPrefix, AtEach}
-use Rattle.pp_model.specs.FiniteMap.{find, KeysRise, keys_of}
-use Rattle.pp_model.specs.Calls.{key_of, reply, map_after, changes}
-use Rattle.pp_model.specs.History.{after, contents_of, Sound, change_of, FitsUnchanged, Stands}
-use Rattle.pp_model.specs.Pass.{PassView, CallerRun}
-use Rattle.pp_model.specs.MapCalls.{Grew, PlacesReply, FoundFull, LeavesPurse, LeftAlone, Tidied, AnswersCall, IsClosing, AreNumbers, caller_run, placed}
-use Rattle.pp_model.specs.Plain.{changes_from, log_of, plain_pass, PlainHolds, plain_meaning, plain_sizes, PlainAnswers, IsPlainAnswer, plain_run}
+use Rattle.pp_model.specs.FiniteMap.{find, KeysRise}
+use Rattle.pp_model.specs.Calls.{reply, map_after, changes}
+use Rattle.pp_model.specs.History.{contents_of, Sound, change_of, FitsUnchanged, Stands}
+use Rattle.pp_model.specs.Pass.{CallerRun}
+use Rattle.pp_model.specs.MapCalls.{Grew, LeavesPurse, Tidied, IsClosing, AreNumbers}
+use Rattle.pp_model.specs.MapCalls.{caller_run, placed}
+use Rattle.pp_model.specs.Plain.{changes_from, log_of, plain_pass, PlainHolds, plain_meaning, plain_sizes, PlainAnswers, IsPlainAnswer}
+use Rattle.pp_model.specs.Plain.{plain_run}
 use Rattle.pp_model.proofs.Histories.{stands_unchanged, stands_change, sound_change, contents_push, after_all, fits_within}
 
 pub changes_from-push : (n : ℕ) (mine : List Placed) (s : Placed)
@@ -130,7 +134,8 @@ module _ (records calls : ℕ) (pairs : List Pair) (mine : List Placed) (holds :
         right = ap (λ m. reply m call) (after_all (log_of mine) ∙ sym holds.contents) ∙ right;
       } in
       let stands : Stands (log_of mine) 0 (mine ++ s ∷ []) =
-      stands_unchanged (log_of mine) 0 mine s holds.stands none fits (λ i t e. fits_within (log_of mine) 0 (i + 1) t (holds.stands.each i t e)) in
+      stands_unchanged (log_of mine) 0 mine s holds.stands none fits
+      (λ i t e. fits_within (log_of mine) 0 (i + 1) t (holds.stands.each i t e)) in
       record {
         contents = holds.contents ∙ ap contents_of (sym log);
         rises = holds.rises;
@@ -148,7 +153,8 @@ module _ (records calls : ℕ) (pairs : List Pair) (mine : List Placed) (holds :
       let c = change_of 0 (length mine + 1) call in
       let log = log_change mine s changed in
       let right' : reply (contents_of (log_of mine)) call ≡ r = ap (λ m. reply m call) (sym holds.contents) ∙ right in
-      let stands : Stands (log_of mine ++ c ∷ []) 0 (mine ++ s ∷ []) = stands_change (log_of mine) 0 mine s holds.stands changed right' refl in
+      let stands : Stands (log_of mine ++ c ∷ []) 0 (mine ++ s ∷ []) =
+      stands_change (log_of mine) 0 mine s holds.stands changed right' refl in
       let sound : Sound (log_of mine ++ c ∷ []) = sound_change (log_of mine) c holds.sound (ap changes right' ∙ changed) in
       record {
         contents = is ∙ (ap (λ m. map_after m call) holds.contents ∙ (sym (contents_push (log_of mine) c) ∙ ap contents_of (sym log)));
@@ -210,7 +216,8 @@ module _ (records calls : ℕ) (pairs : List Pair) (mine : List Placed) (holds :
       let log = log_unchanged mine s none in
       let holds' = holds_unchanged records calls pairs mine holds room call r right none in
       record {
-        grew = plain_grew records calls pairs pairs mine mine' ([], log ∙ sym (append-nil (log_of mine))) (omega (arith, length-append mine (s ∷ [])));
+        grew = plain_grew records calls pairs pairs mine mine' ([], log ∙ sym (append-nil (log_of mine)))
+            (omega (arith, length-append mine (s ∷ [])));
         says = record {
           place = length (log_of mine);
           mine = refl;
@@ -229,10 +236,12 @@ module _ (records calls : ℕ) (pairs : List Pair) (mine : List Placed) (holds :
 
 -- what a change leaves: an insert has one pair more, a remove one less
 pub data IsPlainChange (pairs : List Pair) (records : ℕ) : Call → Reply → List Pair → Type 0 where
-  adds : (k v : ℕ) (pairs' : List Pair) → length pairs < records → length pairs' ≡ length pairs + 1 → IsPlainChange pairs records (Insert k v) Added pairs'
+  adds : (k v : ℕ) (pairs' : List Pair) → length pairs < records → length pairs' ≡ length pairs + 1
+      → IsPlainChange pairs records (Insert k v) Added pairs'
   takes : (k v : ℕ) (pairs' : List Pair) → length pairs' + 1 ≡ length pairs → IsPlainChange pairs records (Remove k) (Took v) pairs'
 
-change_purse : (records calls : ℕ) (call : Call) (r : Reply) (pairs pairs' : List Pair) (mine mine' : List Placed) → IsPlainChange pairs records call r pairs'
+change_purse : (records calls : ℕ) (call : Call) (r : Reply) (pairs pairs' : List Pair) (mine mine' : List Placed)
+    → IsPlainChange pairs records call r pairs'
     → LeavesPurse plain_meaning (plain_sizes records) call (plain_pass records calls pairs mine) (plain_pass records calls pairs' mine')
 change_purse records calls call r pairs pairs' mine mine' (adds k v _ few more) =
     plain_tidied records calls calls 1 pairs pairs' mine mine' (omega arith)
@@ -244,7 +253,8 @@ change_answers : (records : ℕ) (call : Call) (r : Reply) (pairs pairs' content
 change_answers records call r pairs pairs' contents is (adds k v _ few more) = omega (arith, ap length is)
 change_answers records call r pairs pairs' contents is (takes k v _ less) = tt
 
-change_changes : (records : ℕ) (call : Call) (r : Reply) (pairs pairs' : List Pair) → IsPlainChange pairs records call r pairs' → changes r ≡ true
+change_changes : (records : ℕ) (call : Call) (r : Reply) (pairs pairs' : List Pair) → IsPlainChange pairs records call r pairs'
+    → changes r ≡ true
 change_changes records call r pairs pairs' (adds k v _ few more) = refl
 change_changes records call r pairs pairs' (takes k v _ less) = refl
 
@@ -255,7 +265,8 @@ change_fits records call r pairs pairs' fit (takes k v _ less) = omega arith
 
 module _ (records calls : ℕ) (pairs : List Pair) (mine : List Placed) (holds : PlainHolds records calls pairs mine)
     (room : length mine < calls) (call : Call) (r : Reply) (right : reply pairs call ≡ r)
-    (pairs' : List Pair) (change : IsPlainChange pairs records call r pairs') (is : pairs' ≡ map_after pairs call) (rises : KeysRise pairs') where
+    (pairs' : List Pair) (change : IsPlainChange pairs records call r pairs') (is : pairs' ≡ map_after pairs call)
+    (rises : KeysRise pairs') where
   -- A reply that says a change is entered with it.
   pub holds_changed : PlainHolds records calls pairs' (mine ++ placed call r (length (log_of mine) + 1) ∷ [])
   holds_changed =
@@ -282,7 +293,12 @@ module _ (records calls : ℕ) (pairs : List Pair) (mine : List Placed) (holds :
         };
         stands = holds_changed.stands;
         lost = left;
-        cause = record { no_step = refl; seen = refl; answers = change_answers records call r pairs pairs' (contents_of (log_of mine)) holds.contents change };
+        cause = record {
+          no_step = refl;
+          seen = refl;
+          answers =
+              change_answers records call r pairs pairs' (contents_of (log_of mine)) holds.contents change;
+        };
         purse = change_purse records calls call r pairs pairs' mine mine' change;
         full = tt;
       }

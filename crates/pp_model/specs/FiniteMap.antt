@@ -1,5 +1,6 @@
 -- A finite map, as the list of its pairs by rising keys.
-use Rattle.std.specs.Prelude.{◌≡◌, ℕ, ◌<◌, ◌≤◌, cond, nat_eq, nat_lt, List, [], ◌∷◌, length, insert, remove, Option, Some, None, slice_get}
+use Rattle.std.specs.Prelude.{◌≡◌, ℕ, ◌<◌, ◌≤◌, cond, nat_eq, nat_lt, List, [], ◌∷◌, length, insert, remove, Option, Some, None}
+use Rattle.std.specs.Prelude.{slice_get}
 use Rattle.pp_model.specs.declared.Pair.{Pair}
 use Rattle.pp_model.specs.Lists.{RisesFrom}
 

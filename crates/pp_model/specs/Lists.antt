@@ -1,5 +1,5 @@
 -- Words on lists that the definitions share.
-use Rattle.std.specs.Prelude.{◌≡◌, ℕ, zero, suc, ◌+◌, ◌≤◌, cond, nat_eq, List, [], ◌∷◌, ◌++◌, Option, Some, slice_get}
+use Rattle.std.specs.Prelude.{◌≡◌, ℕ, zero, suc, ◌+◌, ◌≤◌, cond, nat_eq, List, [], ◌∷◌, ◌++◌, Some, slice_get}
 
 -- count numbers from low on
 abbrev pub upto : ℕ → ℕ → List ℕ

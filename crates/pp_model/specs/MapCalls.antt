@@ -1,5 +1,6 @@
 -- The clauses of a map's calls, by name.
-use Rattle.std.specs.Prelude.{◌≡◌, ℕ, ◌+◌, ◌-◌, ◌*◌, ◌^◌, ◌<◌, ◌≤◌, ◌⊎◌, min, Bool, true, false, List, [], ◌∷◌, ◌++◌, length, map, take, Option, Some, None, Result, Ok, Err, slice_get}
+use Rattle.std.specs.Prelude.{◌≡◌, ℕ, ◌+◌, ◌-◌, ◌*◌, ◌^◌, ◌<◌, ◌≤◌, ◌⊎◌, min, true, false, List, [], ◌∷◌, ◌++◌, length, map, take}
+use Rattle.std.specs.Prelude.{Option, Some, None, Result, Ok, Err, slice_get}
 use Rattle.pp_model.specs.declared.Call.{Call}
 use Rattle.pp_model.specs.declared.Call.TheVariants.{Get, Insert, Remove}
 use Rattle.pp_model.specs.declared.Reply.{Reply}
@@ -13,14 +14,14 @@ use Rattle.pp_model.specs.declared.InsertFault.{InsertFault}
 use Rattle.pp_model.specs.declared.InsertFault.TheVariants as fault
 use Rattle.pp_model.specs.declared.Turned.{Turned}
 use Rattle.pp_model.specs.declared.Turned.TheVariants.{On, Done}
-use Rattle.pp_model.specs.declared.Change.{Change}
 use Rattle.pp_model.specs.declared.Placed.{Placed}
 use Rattle.pp_model.specs.declared.Pair.{Pair}
 use Rattle.pp_model.specs.Lists.{AtEach, IsPrefix, RisesFrom, times}
 use Rattle.pp_model.specs.FiniteMap.{find, KeysRise}
 use Rattle.pp_model.specs.Calls.{key_of, reply, changes}
 use Rattle.pp_model.specs.History.{after, contents_of, Sound, Stands}
-use Rattle.pp_model.specs.Pass.{OrderEntry, PassView, GoingView, MapSizes, Meaning, CallerRun, RunView, IsExecution, replayed, changes_of, steps_of, steps_since, start_of, seen_last}
+use Rattle.pp_model.specs.Pass.{PassView, GoingView, MapSizes, Meaning, CallerRun, RunView, IsExecution, replayed, changes_of}
+use Rattle.pp_model.specs.Pass.{steps_of, steps_since, start_of, seen_last}
 
 -- the answers of the three calls, as one type
 abbrev pub get_answer : Result (Option ℕ) LostTurns → Answer
@@ -133,7 +134,8 @@ LeavesFull meaning sizes before now (Said r) = Unit {0}
 LeavesFull meaning sizes before now (Lost turns) = Unit {0}
 
 -- A call was made with this budget of lost turns, from its begin to this answer.
-pub record AnswersCall (meaning : Meaning) (sizes : MapSizes) (call : Call) (budget : ℕ) (before now : PassView) (answer : Answer) : Type 0 where
+pub record AnswersCall (meaning : Meaning) (sizes : MapSizes) (call : Call) (budget : ℕ) (before now : PassView) (answer : Answer) : Type
+    0 where
   pub grew : Grew before now
   pub says : Says meaning sizes call before now answer
   pub stands : StandsIn now
@@ -204,7 +206,8 @@ pub record AreNumbers (records : ℕ) (live free : List ℕ) : Type 0 where
   pub free_rise : RisesFrom 0 free
 
 -- what stands after a map was closed over these passes
-pub record IsClosing (meaning : Meaning) (sizes : MapSizes) (passes : List PassView) (contents : List Pair) (free : List ℕ) (run : RunView) : Type 0 where
+pub record IsClosing (meaning : Meaning) (sizes : MapSizes) (passes : List PassView) (contents : List Pair) (free : List ℕ)
+    (run : RunView) : Type 0 where
   pub sizes_are : run.sizes ≡ sizes
   pub sound : Sound run.log
   pub contents_are : contents ≡ contents_of run.log
@@ -221,7 +224,8 @@ pub record IsClosing (meaning : Meaning) (sizes : MapSizes) (passes : List PassV
   pub live : length run.live ≡ meaning.live (length contents)
 
 -- a pass made these calls, one after another, with these answers
-pub data AnswersCalls (meaning : Meaning) (sizes : MapSizes) (budget : ℕ) (before : PassView) : List Call → List Answer → PassView → Type 0 where
+pub data AnswersCalls (meaning : Meaning) (sizes : MapSizes) (budget : ℕ) (before : PassView) : List Call → List Answer → PassView
+    → Type 0 where
   none : AnswersCalls meaning sizes budget before [] [] before
   more : (calls : List Call) (answers : List Answer) (then_at now : PassView) (call : Call) (answer : Answer)
       → AnswersCalls meaning sizes budget before calls answers then_at → AnswersCall meaning sizes call budget then_at now answer

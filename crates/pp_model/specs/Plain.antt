@@ -1,8 +1,6 @@
 -- The plain map: sorted pairs, and the list of the placed calls, from which its log is read.
-use Rattle.std.specs.Prelude.{◌≡◌, ℕ, ◌+◌, ◌-◌, ◌<◌, ◌≤◌, Bool, true, false, cond, List, [], ◌∷◌, ◌++◌, length, Option, Some, None, Result, Ok, Err}
+use Rattle.std.specs.Prelude.{◌≡◌, ℕ, ◌+◌, ◌-◌, ◌<◌, ◌≤◌, false, cond, List, [], ◌∷◌, length}
 use Rattle.pp_model.specs.declared.Call.{Call}
-use Rattle.pp_model.specs.declared.Call.TheVariants.{Get, Insert, Remove}
-use Rattle.pp_model.specs.declared.Reply.{Reply}
 use Rattle.pp_model.specs.declared.Reply.TheVariants.{Value, Absent, Added, Held, Took}
 use Rattle.pp_model.specs.declared.Answer.{Answer}
 use Rattle.pp_model.specs.declared.Answer.TheVariants.{Said, Full, Lost}
@@ -13,7 +11,7 @@ use Rattle.pp_model.specs.Lists.{upto}
 use Rattle.pp_model.specs.FiniteMap.{KeysRise}
 use Rattle.pp_model.specs.Calls.{changes}
 use Rattle.pp_model.specs.History.{Sound, Stands, contents_of, change_of}
-use Rattle.pp_model.specs.Pass.{PassView, GoingView, MapSizes, Meaning, RunView, CallerRun}
+use Rattle.pp_model.specs.Pass.{PassView, GoingView, MapSizes, Meaning, RunView}
 use Rattle.pp_model.specs.MapCalls.{MayCall, AnswersCall}
 
 -- the changes of a list of placed calls, numbered from n on

@@ -1,5 +1,5 @@
 -- What contracts see of a pass of the plain map, and what always holds of its fields.
-use Rattle.std.specs.Prelude.{◌≡◌, ℕ, ◌≤◌, length, vec_capacity}
+use Rattle.std.specs.Prelude.{◌≡◌, ◌≤◌, length, vec_capacity}
 use Rattle.pp_model.specs.declared.plain.PlainPass.TheInside.{Inside}
 use Rattle.pp_model.specs.Pass.{PassView}
 use Rattle.pp_model.specs.Plain.{plain_pass, PlainHolds, log_of}

@@ -17,7 +17,8 @@ pub fn answer_one<M: MapCalls>(map: &M, pass: &mut M::Pass, call: Call, races: u
     requires may { MayCall call races (M.pass_view pass.old) }
     ensures belongs { M.Belongs map.now pass.new }
     ensures idle { M.Idle pass.new }
-    ensures answered { AnswersCall M.meaning (M.sizes map.now) call races (M.pass_view pass.old) (M.pass_view pass.new) result }
+    ensures answered { AnswersCall M.meaning (M.sizes map.now) call races
+        (M.pass_view pass.old) (M.pass_view pass.new) result }
 {
     let mut going = map.begin(pass, call, races);
     loop {
@@ -48,7 +49,8 @@ pub fn answer_all<M: MapCalls>(
     requires space { length calls.now ≤ vec_capacity answers.old }
     ensures belongs { M.Belongs map.now pass.new }
     ensures idle { M.Idle pass.new }
-    ensures answered { AnswersCalls M.meaning (M.sizes map.now) races (M.pass_view pass.old) calls.now answers.new.items (M.pass_view pass.new) }
+    ensures answered { AnswersCalls M.meaning (M.sizes map.now) races
+        (M.pass_view pass.old) calls.now answers.new.items (M.pass_view pass.new) }
     ensures caller { (M.pass_view pass.new).caller ≡ (M.pass_view pass.old).caller }
     ensures each { length answers.new.items ≡ length calls.now }
     ensures mine { MineGrew calls.now answers.new.items (M.pass_view pass.old) (M.pass_view pass.new) }

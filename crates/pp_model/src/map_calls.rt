@@ -8,7 +8,8 @@ ghost use Rattle.std.specs.Prelude.{◌≡◌, map, length, IfOk, IfErr};
 ghost use Rattle.pp_model.specs.declared.Call.TheVariants as Call;
 ghost use Rattle.pp_model.specs.Lists.{AtEach};
 ghost use Rattle.pp_model.specs.Pass.{PassView, GoingView, MapSizes, Meaning, RunView};
-ghost use Rattle.pp_model.specs.MapCalls.{MayCall, AnswersCall, Begun, Grew, SameCall, WentOn, Counted, IfOn, IfDone, StandsIn, IsClosing, get_answer, insert_answer, remove_answer};
+ghost use Rattle.pp_model.specs.MapCalls.{MayCall, AnswersCall, Begun, Grew, SameCall, WentOn, Counted, IfOn, IfDone, StandsIn};
+ghost use Rattle.pp_model.specs.MapCalls.{IsClosing, get_answer, insert_answer, remove_answer};
 
 use crate::{Call, InsertFault, Inserted, Lost, Pair, Turned};
 use std::alloc::Global;
@@ -97,7 +98,8 @@ pub trait MapCalls: Sized {
         requires may { MayCall (Call.Get key) races (pass_view pass.old) }
         ensures belongs { Belongs self.now pass.new }
         ensures idle { Idle pass.new }
-        ensures answered { AnswersCall meaning (sizes self.now) (Call.Get key) races (pass_view pass.old) (pass_view pass.new) (get_answer result) };
+        ensures answered { AnswersCall meaning (sizes self.now) (Call.Get key) races
+            (pass_view pass.old) (pass_view pass.new) (get_answer result) };
 
     /// Adds a pair where the key is absent. `Held`: the key is there with this value, which stays.
     ///
@@ -117,7 +119,8 @@ pub trait MapCalls: Sized {
         requires may { MayCall (Call.Insert key value) races (pass_view pass.old) }
         ensures belongs { Belongs self.now pass.new }
         ensures idle { Idle pass.new }
-        ensures answered { AnswersCall meaning (sizes self.now) (Call.Insert key value) races (pass_view pass.old) (pass_view pass.new) (insert_answer result) };
+        ensures answered { AnswersCall meaning (sizes self.now) (Call.Insert key value) races
+            (pass_view pass.old) (pass_view pass.new) (insert_answer result) };
 
     /// Takes the pair of a key away, and gives its value. `None`: the key is absent.
     ///
@@ -130,7 +133,8 @@ pub trait MapCalls: Sized {
         requires may { MayCall (Call.Remove key) races (pass_view pass.old) }
         ensures belongs { Belongs self.now pass.new }
         ensures idle { Idle pass.new }
-        ensures answered { AnswersCall meaning (sizes self.now) (Call.Remove key) races (pass_view pass.old) (pass_view pass.new) (remove_answer result) };
+        ensures answered { AnswersCall meaning (sizes self.now) (Call.Remove key) races
+            (pass_view pass.old) (pass_view pass.new) (remove_answer result) };
 
     /// Begins a call, which `turn` then makes. It makes no atomic step.
     fn begin(&self, pass: &mut Self::Pass, call: Call, races: u64) -> Self::Going
@@ -158,7 +162,8 @@ pub trait MapCalls: Sized {
             → Counted meaning (sizes self.now) (going_view going.new) before (pass_view pass.new)) }
         ensures idle { IfDone result (λ _. Idle pass.new) }
         ensures answered { IfDone result (λ answer. (before : PassView) → UnderWay self.now pass.old going.old before
-            → AnswersCall meaning (sizes self.now) (going_view going.old).call (going_view going.old).budget before (pass_view pass.new) answer) };
+            → AnswersCall meaning (sizes self.now) (going_view going.old).call (going_view going.old).budget
+            before (pass_view pass.new) answer) };
 
     /// Lets a call go that was answered.
     fn finish(&self, going: Self::Going);
@@ -176,6 +181,7 @@ pub trait MapCalls: Sized {
     ) -> Result<Closed<Self::Witness>, CloseFault<Self, Self::Pass>>
         requires all { length passes.items ≡ (sizes self).passes }
         requires each { AtEach passes.items (λ k p. Belongs self p × Idle p × ((pass_view p).caller ≡ k)) }
-        ensures closed { IfOk result (λ c. IsClosing meaning (sizes self) (map pass_view passes.items) c.contents.items c.free.items (run_view c.witness)) }
+        ensures closed { IfOk result (λ c. IsClosing meaning (sizes self) (map pass_view passes.items)
+            c.contents.items c.free.items (run_view c.witness)) }
         ensures back { IfErr result (λ e. (e.map ≡ self) × (e.passes.items ≡ passes.items)) };
 }

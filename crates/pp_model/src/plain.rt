@@ -296,8 +296,8 @@ impl MapCalls for PlainMap {
     ) -> Result<Closed<PlainKept>, CloseFault<PlainMap, PlainPass>>
         requires all { length passes.items ≡ (plain_sizes self.records).passes }
         requires each { AtEach passes.items (λ k p. (p.share ≡ self.records) × Unit {0} × (p.caller ≡ k)) }
-        ensures closed { IfOk result (λ c. IsClosing plain_meaning (plain_sizes self.records) (map (λ p. p) passes.items) c.contents.items c.free.items
-            (plain_run c.witness.records c.witness.placed.items)) }
+        ensures closed { IfOk result (λ c. IsClosing plain_meaning (plain_sizes self.records) (map (λ p. p) passes.items)
+            c.contents.items c.free.items (plain_run c.witness.records c.witness.placed.items)) }
         ensures back { IfErr result (λ e. (e.map ≡ self) × (e.passes.items ≡ passes.items)) }
     {
         let mut passes = passes;

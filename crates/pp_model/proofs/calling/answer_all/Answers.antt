@@ -1,10 +1,8 @@
-use Rattle.std.proofs.Common.{◌≡◌, ◌+◌, ◌<◌, [], ◌∷◌, ◌++◌, List, length, take, get_or, sym, ap, ◌∙◌, subst, arith, length-append, length-take-le, take_all}
-use Rattle.std.specs.Prelude.{slice_get, Some}
+use Rattle.std.proofs.Common.{◌≡◌, ◌+◌, ◌<◌, [], ◌∷◌, ◌++◌, length, take, get_or, arith}
+use Rattle.std.proofs.Common.{length-take-le, take_all}
 use Rattle.std.proofs.lemmas.List.{take_more}
 use Rattle.std.proofs.lemmas.Option.{slice_get-get_or}
-use Rattle.pp_model.specs.declared.Call.{Call}
 use Rattle.pp_model.specs.declared.Call.TheVariants.{Get}
-use Rattle.pp_model.specs.declared.Answer.{Answer}
 use Rattle.pp_model.specs.MapCalls.{AnswersCalls, none, more}
 use Rattle.pp_model.proofs.Chains.{answers_each, caller_kept, room_left, steps_grown, stands_after, mine_grown}
 use Rattle.pp_model.proofs.calling.answer_all.Given.{Over}
@@ -43,7 +41,8 @@ loop-call-preserved g c =
     let call = get_or calls i (Get 0) in
     let next : take (i + 1) calls ≡ take i calls ++ call ∷ [] = take_more calls i (Get 0) c.loop-call-test.true in
     let chain = more (take i calls) c.loop-call.answers.items (g.M.MapCalls.pass_view c.loop-call.pass)
-    (g.M.MapCalls.pass_view c.answer_one-answer.new.pass) call c.answer_one-answer.result c.loop-call.invariant.answered c.answer_one-answer.ensures.answered in
+    (g.M.MapCalls.pass_view c.answer_one-answer.new.pass) call c.answer_one-answer.result c.loop-call.invariant.answered
+    c.answer_one-answer.ensures.answered in
     record {
       belongs = c.answer_one-answer.ensures.belongs;
       idle = c.answer_one-answer.ensures.idle;
@@ -56,7 +55,8 @@ module _ (g : Over) (c : goal.After-loop-call g) where
   all : AnswersCalls g.M.MapCalls.meaning (g.M.MapCalls.sizes c.args.map.now) c.args.races (g.M.MapCalls.pass_view c.args.pass.now)
       c.args.calls.now c.loop-call.answers.items (g.M.MapCalls.pass_view c.loop-call.pass)
   all =
-      let end : take c.loop-call.call-index c.args.calls.now ≡ c.args.calls.now = take_all c.loop-call.call-index c.args.calls.now c.loop-call-test.false in
+      let end : take c.loop-call.call-index c.args.calls.now ≡ c.args.calls.now =
+      take_all c.loop-call.call-index c.args.calls.now c.loop-call-test.false in
       rw end at c.loop-call.invariant.answered
 
 pub returns-clause-caller : goal.returns-clause-caller

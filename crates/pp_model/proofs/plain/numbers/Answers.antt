@@ -6,7 +6,11 @@ use Rattle.pp_model.proofs.plain.numbers.Goals as goal
 pub loop-n-init : goal.loop-n-init
 loop-n-init c =
     let none : c.args.below - c.args.below ≡ 0 = omega arith in
-    record { items = c.in_ok-numbers.ensures.empty ∙ sym (ap (upto (c.args.below + 1)) none); room = omega (arith, c.in_ok-numbers.ensures.room) }
+    record {
+      items = c.in_ok-numbers.ensures.empty ∙ sym (ap (upto (c.args.below + 1)) none);
+      room =
+          omega (arith, c.in_ok-numbers.ensures.room);
+    }
 
 pub push_reserved-requires : goal.push_reserved-requires
 push_reserved-requires c =

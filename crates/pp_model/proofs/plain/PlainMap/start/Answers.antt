@@ -14,5 +14,5 @@ returns-clause-fresh c =
       wrote = refl;
       free = length-upto (length pairs + 1) (c.args.records - length pairs) ∙ omega (arith, ap length c.in_ok-pairs.ensures.empty);
       retired = refl;
-      chains = refl
+      chains = refl;
     }

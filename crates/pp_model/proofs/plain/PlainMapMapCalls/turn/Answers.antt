@@ -9,5 +9,6 @@ returns-clause-stands c = λ _. (c.answer.ensures c.args.going.now.races c.requi
 pub returns-clause-answered : goal.returns-clause-answered
 returns-clause-answered c before under =
     let going = c.args.going.now in
-    subst (λ b. AnswersCall plain_meaning (plain_sizes c.args.self.now.records) going.call going.races b c.answer.new.self c.answer.result) under.same
+    subst (λ b. AnswersCall plain_meaning (plain_sizes c.args.self.now.records) going.call going.races b c.answer.new.self
+    c.answer.result) under.same
     (rw (← c.requires.belongs) (c.answer.ensures going.races under.may.budget_left))

@@ -1,12 +1,8 @@
-use Rattle.std.proofs.Common.{◌≡◌, ℕ, ◌+◌, ◌<◌, List, [], ◌∷◌, ◌++◌, Some, None, length, sym, ap, ◌∙◌, subst, arith, zero-le}
-use Rattle.std.specs.Prelude.{insert}
+use Rattle.std.proofs.Common.{◌≡◌, ◌<◌, length, sym, ap, ◌∙◌, subst, arith, zero-le}
 use Rattle.pp_model.specs.declared.Call.TheVariants.{Insert}
 use Rattle.pp_model.specs.declared.Reply.TheVariants.{Added}
-use Rattle.pp_model.specs.declared.Pair.{Pair}
-use Rattle.pp_model.specs.FiniteMap.{find, put, KeysRise, keys_of, LacksKeyAt}
-use Rattle.pp_model.specs.Lists.{RisesFrom}
+use Rattle.pp_model.specs.FiniteMap.{put, KeysRise, LacksKeyAt}
 use Rattle.pp_model.specs.Calls.{reply, reply_at, map_after, map_after_at}
-use Rattle.pp_model.specs.Plain.{log_of}
 use Rattle.pp_model.proofs.Maps.{RisesFrom-put, length-put}
 use Rattle.pp_model.proofs.PlainPasses.{IsPlainChange, adds, holds_entered, count_entered, answers_entered, length-changes_from}
 use Rattle.pp_model.proofs.plain.PlainPass.add.Goals as goal
@@ -36,7 +32,8 @@ module _ (c : goal.After-push_reserved) where
 
   rises : KeysRise c.insert_reserved.new.pairs.items
   rises =
-      let put_rises = RisesFrom-put c.self.inside.pairs.items 0 c.args.pair.key c.args.pair.value c.self.invariant.holds.rises zero-le lacks.absent in
+      let put_rises = RisesFrom-put c.self.inside.pairs.items 0 c.args.pair.key c.args.pair.value c.self.invariant.holds.rises zero-le
+      lacks.absent in
       subst (λ m. KeysRise m) (sym is) put_rises
 
   change : IsPlainChange c.self.inside.pairs.items c.self.inside.records
@@ -55,9 +52,11 @@ invariant_of-self c =
     let pass = c.self.inside in
     let whole = c.self.invariant in
     record {
-      holds = holds_entered pass.records pass.calls pass.changes pass.pairs.items pass.placed.items whole.holds whole.counted (room c) _ _ (right c)
+      holds = holds_entered pass.records pass.calls pass.changes pass.pairs.items pass.placed.items whole.holds whole.counted (room c) _
+          _ (right c)
           _ (change c) (after c) (rises c) _ c.push_reserved.ensures.items;
-      counted = count_entered pass.records pass.calls pass.changes pass.pairs.items pass.placed.items whole.holds whole.counted (room c) _ _ (right c)
+      counted = count_entered pass.records pass.calls pass.changes pass.pairs.items pass.placed.items whole.holds whole.counted (room c)
+          _ _ (right c)
           _ (change c) (after c) (rises c) _ c.push_reserved.ensures.items;
       pairs_room = omega (arith, whole.pairs_room, c.insert_reserved.ensures.room);
       calls_room = omega (arith, whole.calls_room, c.push_reserved.ensures.room);
@@ -68,5 +67,6 @@ returns c =
     let pass = c.self.inside in
     let whole = c.self.invariant in
     rw (← c.self.view_is)
-    (answers_entered pass.records pass.calls pass.changes pass.pairs.items pass.placed.items whole.holds whole.counted (room c) _ _ (right c)
+    (answers_entered pass.records pass.calls pass.changes pass.pairs.items pass.placed.items whole.holds whole.counted (room c) _ _
+    (right c)
     _ (change c) (after c) (rises c) _ c.push_reserved.ensures.items)

@@ -29,7 +29,8 @@ invariant_of-self c =
     let log = log_unchanged pass.placed.items (placed c.args.call c.args.said (length (log_of pass.placed.items))) c.requires.unchanged in
     record {
       holds = subst (λ (mine : List Placed). PlainHolds pass.records pass.calls pass.pairs.items mine) (sym (items c))
-          (holds_unchanged pass.records pass.calls pass.pairs.items pass.placed.items whole.holds (room c) c.args.call c.args.said (right c) c.requires.unchanged);
+          (holds_unchanged pass.records pass.calls pass.pairs.items pass.placed.items whole.holds (room c) c.args.call c.args.said
+          (right c) c.requires.unchanged);
       counted = whole.counted ∙ sym (ap (λ mine. length (log_of mine)) (items c) ∙ ap length log);
       pairs_room = whole.pairs_room;
       calls_room = omega (arith, whole.calls_room, c.push_reserved.ensures.room);
@@ -41,4 +42,5 @@ returns c =
     rw (← c.self.view_is)
     (subst (λ (mine : List Placed). IsPlainAnswer c.args.call (plain_pass pass.records pass.calls pass.pairs.items pass.placed.items)
     (plain_pass pass.records pass.calls pass.pairs.items mine) (Said c.args.said)) (sym (items c))
-    (answers_unchanged pass.records pass.calls pass.pairs.items pass.placed.items c.self.invariant.holds (room c) c.args.call c.args.said (right c) c.requires.unchanged))
+    (answers_unchanged pass.records pass.calls pass.pairs.items pass.placed.items c.self.invariant.holds (room c) c.args.call c.args.said
+    (right c) c.requires.unchanged))

@@ -1,5 +1,4 @@
-use Rattle.std.proofs.Common.{length, sym, ap, ◌∙◌, arith}
-use Rattle.std.proofs.lemmas.List.{length_push}
+use Rattle.std.proofs.Common.{arith}
 use Rattle.pp_model.proofs.PlainPasses.{answers_full}
 use Rattle.pp_model.proofs.plain.PlainPass.insert.Goals as goal
 

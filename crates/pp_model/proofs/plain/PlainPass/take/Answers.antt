@@ -1,11 +1,9 @@
-use Rattle.std.proofs.Common.{◌≡◌, ℕ, ◌+◌, ◌<◌, List, [], ◌∷◌, ◌++◌, Some, None, length, get_or, sym, ap, ◌∙◌, subst, arith}
+use Rattle.std.proofs.Common.{◌≡◌, ◌+◌, ◌<◌, Some, length, sym, ap, ◌∙◌, subst, arith}
 use Rattle.std.proofs.lemmas.Option.{slice_get_read}
-use Rattle.std.specs.Prelude.{slice_get}
 use Rattle.pp_model.specs.declared.Call.TheVariants.{Remove}
 use Rattle.pp_model.specs.declared.Reply.TheVariants.{Took}
 use Rattle.pp_model.specs.FiniteMap.{find, drop_key, KeysRise, HasKeyAt}
 use Rattle.pp_model.specs.Calls.{reply, reply_at, map_after, map_after_at}
-use Rattle.pp_model.specs.Plain.{log_of}
 use Rattle.pp_model.proofs.Maps.{RisesFrom-drop_key, length-drop_key}
 use Rattle.pp_model.proofs.PlainPasses.{IsPlainChange, takes, holds_entered, count_entered, answers_entered, length-changes_from}
 use Rattle.pp_model.proofs.plain.PlainPass.take.Goals as goal
@@ -29,7 +27,8 @@ module _ (c : goal.After-push_reserved) where
 
   found : find c.self.inside.pairs.items c.args.key ≡ Some c.remove-value.result.value
   found = has.found c.remove-value.result
-      (slice_get_read c.self.inside.pairs.items (length c.self.inside.pairs.items) c.args.i c.remove-value.result (omega arith) has.within c.remove-value.ensures.value)
+      (slice_get_read c.self.inside.pairs.items (length c.self.inside.pairs.items) c.args.i c.remove-value.result (omega arith)
+      has.within c.remove-value.ensures.value)
 
   is : c.remove-value.new.self.items ≡ drop_key c.self.inside.pairs.items c.args.key
   is = c.remove-value.ensures.items ∙ has.rest
@@ -37,7 +36,8 @@ module _ (c : goal.After-push_reserved) where
   rises : KeysRise c.remove-value.new.self.items
   rises = subst (λ m. KeysRise m) (sym is) (RisesFrom-drop_key c.self.inside.pairs.items 0 c.args.key c.self.invariant.holds.rises)
 
-  change : IsPlainChange c.self.inside.pairs.items c.self.inside.records (Remove c.args.key) (Took c.remove-value.result.value) c.remove-value.new.self.items
+  change : IsPlainChange c.self.inside.pairs.items c.self.inside.records (Remove c.args.key) (Took c.remove-value.result.value)
+      c.remove-value.new.self.items
   change = takes c.args.key c.remove-value.result.value c.remove-value.new.self.items
       (ap (λ m. length m + 1) is ∙ length-drop_key c.self.inside.pairs.items c.args.key c.remove-value.result.value found)
 
@@ -52,9 +52,11 @@ invariant_of-self c =
     let pass = c.self.inside in
     let whole = c.self.invariant in
     record {
-      holds = holds_entered pass.records pass.calls pass.changes pass.pairs.items pass.placed.items whole.holds whole.counted (room c) _ _ (right c)
+      holds = holds_entered pass.records pass.calls pass.changes pass.pairs.items pass.placed.items whole.holds whole.counted (room c) _
+          _ (right c)
           _ (change c) (after c) (rises c) _ c.push_reserved.ensures.items;
-      counted = count_entered pass.records pass.calls pass.changes pass.pairs.items pass.placed.items whole.holds whole.counted (room c) _ _ (right c)
+      counted = count_entered pass.records pass.calls pass.changes pass.pairs.items pass.placed.items whole.holds whole.counted (room c)
+          _ _ (right c)
           _ (change c) (after c) (rises c) _ c.push_reserved.ensures.items;
       pairs_room = omega (arith, whole.pairs_room, c.remove-value.ensures.capacity);
       calls_room = omega (arith, whole.calls_room, c.push_reserved.ensures.room);
@@ -65,5 +67,6 @@ returns c =
     let pass = c.self.inside in
     let whole = c.self.invariant in
     rw (← c.self.view_is)
-    (answers_entered pass.records pass.calls pass.changes pass.pairs.items pass.placed.items whole.holds whole.counted (room c) _ _ (right c)
+    (answers_entered pass.records pass.calls pass.changes pass.pairs.items pass.placed.items whole.holds whole.counted (room c) _ _
+    (right c)
     _ (change c) (after c) (rises c) _ c.push_reserved.ensures.items)
