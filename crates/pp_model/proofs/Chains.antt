@@ -12,6 +12,7 @@ use Rattle.pp_model.specs.Lists.{IsPrefix, AtEach}
 use Rattle.pp_model.specs.Pass.{PassView, MapSizes, Meaning}
 use Rattle.pp_model.specs.MapCalls.{Says, AnswersCalls, none, more, SaidCall, said_call, said_calls, MineGrew}
 use Rattle.pp_model.specs.MapCalls.{StandsIn, LeavesPurse}
+use Rattle.pp_model.specs.Plain.{plain_meaning, PlainCause}
 use Rattle.pp_model.proofs.Histories.{slice_get_push}
 
 pub IsPrefix-refl : {A : Type 0} → (xs : List A) → IsPrefix xs xs
@@ -150,3 +151,19 @@ never_full meaning sizes budget before now calls answers (more cs given then_at 
     last (Remove i) Full says free e = let same = says.inserts.2 in cc
     last c (Said r) says free e = cc
     last c (Lost t) says free e = cc
+
+no_loss : (sizes : MapSizes) (call : Call) (budget : ℕ) (before now : PassView) (answer : Answer) (turns : ℕ)
+    → PlainCause sizes call budget before now answer → answer ≡ Lost turns → ⊥
+no_loss sizes call budget before now (Said r) turns cause e = cc
+no_loss sizes call budget before now Full turns cause e = cc
+no_loss sizes call budget before now (Lost t) turns cause e = cause.answers
+
+-- No call of the plain map is ever lost.
+pub plain_never_lost : (sizes : MapSizes) (budget : ℕ) (before now : PassView) (calls : List Call) (answers : List Answer)
+    → AnswersCalls plain_meaning sizes budget before calls answers now → AtEach answers (λ k a. (turns : ℕ) → a ≡ Lost turns → ⊥)
+plain_never_lost sizes budget before now calls answers none k a at turns is = absurd cc
+plain_never_lost sizes budget before now calls answers (more cs given then_at _ call answer ran made) k a at turns is =
+    ⊎_elim
+    (λ (old : slice_get given k ≡ Some a). plain_never_lost sizes budget before then_at cs given ran k a old turns is)
+    (λ (new : (k ≡ length given) × (a ≡ answer)). no_loss sizes call budget then_at now answer turns made.cause (sym new.1 ∙ is))
+    (slice_get_push given answer k a at)

@@ -20,6 +20,7 @@ pub struct Step {
 pub struct OrderEntry<E> {
     /// The pass that made the step.
     pub pass: u32,
+    /// The step itself.
     pub step: Step,
     /// The word that the step left.
     pub left: u64,
