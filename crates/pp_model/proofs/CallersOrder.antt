@@ -51,16 +51,16 @@ change_rank p s =
     ⊎_elim
     (λ (change : changes s.reply ≡ true). rw change (same_test s.place (p + 1) (2 * s.place) (2 * p + 2) (λ e. omega arith)
     (λ e. omega arith)))
-    (λ (none : changes s.reply ≡ false). let apart : eqb (2 * s.place + 1) (2 * p + 2) ≡ false =
-    ne_eqb (2 * s.place + 1) (2 * p + 2) (λ e. omega arith) in
+    (λ (none : changes s.reply ≡ false).
+    let apart : eqb (2 * s.place + 1) (2 * p + 2) ≡ false = ne_eqb (2 * s.place + 1) (2 * p + 2) (λ e. omega arith) in
     rw (none, apart) refl)
     (cases_Bool (changes s.reply))
 
 other_rank : (p : ℕ) (s : Placed) → stands_at false p s ≡ eqb (rank s) (2 * p + 1)
 other_rank p s =
     ⊎_elim
-    (λ (change : changes s.reply ≡ true). let apart : eqb (2 * s.place) (2 * p + 1) ≡ false =
-    ne_eqb (2 * s.place) (2 * p + 1) (λ e. omega arith) in
+    (λ (change : changes s.reply ≡ true).
+    let apart : eqb (2 * s.place) (2 * p + 1) ≡ false = ne_eqb (2 * s.place) (2 * p + 1) (λ e. omega arith) in
     rw (change, apart) refl)
     (λ (none : changes s.reply ≡ false). rw none (same_test s.place p (2 * s.place + 1) (2 * p + 1) (λ e. omega arith) (λ e. omega arith)))
     (cases_Bool (changes s.reply))

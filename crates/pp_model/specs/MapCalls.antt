@@ -134,8 +134,8 @@ LeavesFull meaning sizes before now (Said r) = Unit {0}
 LeavesFull meaning sizes before now (Lost turns) = Unit {0}
 
 -- A call was made with this budget of lost turns, from its begin to this answer.
-pub record AnswersCall (meaning : Meaning) (sizes : MapSizes) (call : Call) (budget : ℕ) (before now : PassView) (answer : Answer) : Type
-    0 where
+pub record AnswersCall (meaning : Meaning) (sizes : MapSizes) (call : Call) (budget : ℕ) (before now : PassView)
+    (answer : Answer) : Type 0 where
   pub grew : Grew before now
   pub says : Says meaning sizes call before now answer
   pub stands : StandsIn now
@@ -224,8 +224,8 @@ pub record IsClosing (meaning : Meaning) (sizes : MapSizes) (passes : List PassV
   pub live : length run.live ≡ meaning.live (length contents)
 
 -- a pass made these calls, one after another, with these answers
-pub data AnswersCalls (meaning : Meaning) (sizes : MapSizes) (budget : ℕ) (before : PassView) : List Call → List Answer → PassView
-    → Type 0 where
+pub data AnswersCalls (meaning : Meaning) (sizes : MapSizes) (budget : ℕ) (before : PassView)
+    : List Call → List Answer → PassView → Type 0 where
   none : AnswersCalls meaning sizes budget before [] [] before
   more : (calls : List Call) (answers : List Answer) (then_at now : PassView) (call : Call) (answer : Answer)
       → AnswersCalls meaning sizes budget before calls answers then_at → AnswersCall meaning sizes call budget then_at now answer
