@@ -4,3 +4,4 @@ pub mod PlainPasses
 pub mod Chains
 pub mod Linearizations
 pub mod CallersOrder
+pub mod Closings

@@ -8,12 +8,17 @@ use Rattle.pp_model.specs.declared.Placed.{Placed}
 use Rattle.pp_model.specs.declared.Pair.{Pair}
 use Rattle.pp_model.specs.Lists.{AtEach, RisesFrom}
 use Rattle.pp_model.specs.Calls.{reply, map_after, changes}
+use Rattle.pp_model.specs.Pass.{CallerRun}
 use Rattle.pp_model.specs.History.{Sound, Stands}
 
 -- a caller with its list of placed calls
 pub record CallerList : Type 0 where
   pub caller : ℕ
   pub mine : List Placed
+
+-- the list of a caller of a run that was closed
+abbrev pub caller_list : CallerRun → CallerList
+caller_list r = record { caller = r.caller; mine = r.mine }
 
 -- a call of a history
 pub record HistoryCall : Type 0 where
