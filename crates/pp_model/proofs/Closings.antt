@@ -1,13 +1,12 @@
 -- A map that was closed shows a recorded run, so its linearization is legal.
-use Rattle.std.proofs.Common.{◌≡◌, ℕ, zero, suc, ◌+◌, ◌<◌, ◌≤◌, List, [], ◌∷◌, length, map, Some, refl, sym, ap, ◌∙◌, subst, arith}
+use Rattle.std.proofs.Common.{◌≡◌, ℕ, zero, suc, ◌+◌, ◌<◌, List, [], ◌∷◌, length, map, Some, refl, sym, ap, ◌∙◌, subst, arith}
 use Rattle.std.specs.Prelude.{slice_get}
-use Rattle.pp_model.specs.declared.Change.{Change}
 use Rattle.pp_model.specs.declared.Pair.{Pair}
 use Rattle.pp_model.specs.Lists.{AtEach, RisesFrom}
 use Rattle.pp_model.specs.History.{Stands}
 use Rattle.pp_model.specs.Pass.{PassView, MapSizes, Meaning, RunView}
 use Rattle.pp_model.specs.MapCalls.{IsClosing, caller_run}
-use Rattle.pp_model.specs.Linearization.{CallerList, caller_list, callers_of, HasList, IsRecordedRun, IsHistory}
+use Rattle.pp_model.specs.Linearization.{CallerList, caller_list, callers_of, IsRecordedRun, IsHistory}
 use Rattle.pp_model.proofs.CallersOrder.{is_history}
 
 -- the callers' lists that these passes show
