@@ -1,2 +1,9 @@
 pub mod Lists
+pub mod FiniteMap
 pub mod Calls
+pub mod History
+pub mod Pass
+pub mod MapCalls
+pub mod Linearization
+pub mod Plain
+pub mod PlainModel

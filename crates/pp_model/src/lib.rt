@@ -2,6 +2,15 @@
 //! that every map of this project meets.
 #![tactic(auto)]
 
+pub mod calling;
+pub mod laws;
+pub mod map_calls;
+pub mod plain;
+pub mod steps;
+
+pub use map_calls::{CloseFault, Closed, MapCalls};
+pub use plain::{PlainGoing, PlainKept, PlainMap, PlainPass};
+
 /// A call on a map. Keys are at most 2^64 - 4; values are any 64 bits.
 #[derive(Clone, Copy, Debug, PartialEq, Eq)]
 pub enum Call {

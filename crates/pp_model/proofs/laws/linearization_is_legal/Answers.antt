@@ -1,0 +1,5 @@
+use Rattle.pp_model.proofs.CallersOrder.{is_history}
+use Rattle.pp_model.proofs.laws.linearization_is_legal.Goals as goal
+
+pub returns : goal.returns
+returns c = is_history

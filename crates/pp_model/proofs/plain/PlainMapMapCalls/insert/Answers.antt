@@ -1,0 +1,4 @@
+use Rattle.pp_model.proofs.plain.PlainMapMapCalls.insert.Goals as goal
+
+pub returns-clause-answered : goal.returns-clause-answered
+returns-clause-answered c = rw (← c.requires.belongs) (c.insert.ensures c.args._races c.requires.may.budget_left)
