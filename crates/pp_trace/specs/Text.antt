@@ -1,12 +1,14 @@
 -- The text of a run's answers and contents.
 use Rattle.std.specs.Prelude.{◌≡◌, ℕ, ◌+◌, Bool, true, false, cond, nat_eq, List, [], ◌∷◌, ◌++◌, length, map, codes, count_by}
 use Rattle.std.specs.Fmt.{decimal}
+use Rattle.std.specs.List.{flat_map}
 use Rattle.pp_model.specs.declared.Reply.{Reply}
 use Rattle.pp_model.specs.declared.Reply.TheVariants.{Value, Absent, Added, Held, Took}
 use Rattle.pp_model.specs.declared.Answer.{Answer}
 use Rattle.pp_model.specs.declared.Answer.TheVariants.{Said, Full}
 use Rattle.pp_model.specs.declared.Answer.TheVariants as answer
 use Rattle.pp_model.specs.declared.Pair.{Pair}
+use Rattle.pp_trace.specs.declared.Counts.{Counts}
 use Rattle.pp_trace.specs.declared.Why.{Why}
 use Rattle.pp_trace.specs.declared.Why.TheVariants as why
 
@@ -39,12 +41,13 @@ callers_text c (answers ∷ rest) = caller_text c 1 answers ++ callers_text (c +
 abbrev pub pair_line : Pair → List ℕ
 pair_line p = decimal p.key ++ 32 ∷ [] ++ decimal p.value ++ 10 ∷ []
 
-abbrev pub pairs_text : List Pair → List ℕ
-pairs_text [] = []
-pairs_text (p ∷ pairs) = pair_line p ++ pairs_text pairs
+-- a word and a count
+abbrev pub counted_line : List ℕ → ℕ → List ℕ
+counted_line word n = word ++ decimal n ++ 10 ∷ []
 
+-- how many pairs there are, and a line for each
 abbrev pub contents_text : List Pair → List ℕ
-contents_text pairs = codes "contents " ++ decimal (length pairs) ++ 10 ∷ [] ++ pairs_text pairs
+contents_text pairs = counted_line (codes "contents ") (length pairs) ++ flat_map pair_line pairs
 
 -- the output of a trace that was read
 abbrev pub out : List (List Answer) → List Pair → List ℕ
@@ -105,8 +108,18 @@ is_took Added = false
 is_took (Held v) = false
 is_took (Took v) = true
 
-abbrev pub counted_line : List ℕ → ℕ → List ℕ
-counted_line word n = word ++ decimal n ++ 10 ∷ []
+-- nine lines, from the counts alone
+abbrev pub counts_text : ℕ → Counts → ℕ → List ℕ
+counts_text lines c pairs =
+    counted_line (codes "made ") lines
+    ++ counted_line (codes "added ") c.added
+    ++ counted_line (codes "held ") c.held
+    ++ counted_line (codes "value ") c.value
+    ++ counted_line (codes "absent ") c.absent
+    ++ counted_line (codes "took ") c.took
+    ++ counted_line (codes "full ") c.full
+    ++ counted_line (codes "lost ") c.lost
+    ++ counted_line (codes "contents ") pairs
 
 -- the output of a made trace
 abbrev pub summary : ℕ → List (List Answer) → List Pair → List ℕ

@@ -1,6 +1,11 @@
 //! Traces of map calls: their grammar, made traces, and the printed text of a run.
 #![tactic(auto)]
 
+mod printing;
+mod text;
+
+pub use printing::Printer;
+
 /// Why a line of a trace is bad, by the first of these that holds.
 #[derive(Clone, Copy, Debug, PartialEq, Eq)]
 pub enum Why {
