@@ -1,4 +1,5 @@
 pub mod Lines
 pub mod Grammar
 pub mod Text
+pub mod TraceLists
 pub mod Printing

@@ -1,15 +1,12 @@
--- What a printer's calls do, and what a trace and its refusal say.
+-- What a printer's calls do, and what a made trace is.
 use Rattle.std.specs.Prelude.{◌≡◌, ℕ, zero, suc, ◌+◌, ◌*◌, ◌/◌, ◌%◌, ◌^◌, ◌≤◌, cond, nat_lt, nat_eq, List, [], ◌∷◌, ◌++◌, map, length, Option, Some, None, Result, Ok, Err, ⊤}
 use Rattle.std.specs.Io.KnownBytes.{Appends}
 use Rattle.pp_outside.specs.Outside.{Rose, GrewByPrefix}
 use Rattle.pp_outside.specs.declared.Failed.{Failed}
 use Rattle.pp_model.specs.declared.Call.{Call}
 use Rattle.pp_model.specs.declared.Call.TheVariants.{Get, Insert, Remove}
-use Rattle.pp_model.specs.Calls.{key_of}
 use Rattle.pp_model.specs.Lists.{upto, AtEach}
-use Rattle.pp_trace.specs.declared.TraceFault.{TraceFault}
-use Rattle.pp_trace.specs.declared.TraceFault.TheVariants.{BadLine, NoMemory}
-use Rattle.pp_trace.specs.Grammar.{lines, bad}
+use Rattle.pp_trace.specs.TraceLists.{KeysFit}
 
 -- a text went to the sink, or waits behind what waited
 pub record Prints (old new : Option (List ℕ)) (waited waits text : List ℕ) : Type 0 where
@@ -25,22 +22,6 @@ pub record Broke (old new : Option (List ℕ)) (faults_old faults_new : ℕ) (te
 abbrev pub Printing : Option (List ℕ) → Option (List ℕ) → ℕ → ℕ → List ℕ → List ℕ → List ℕ → Result (Unit {0}) Failed → Type 0
 Printing old new faults_old faults_new waited waits text (Ok u) = Prints old new waited waits text
 Printing old new faults_old faults_new waited waits text (Err e) = Broke old new faults_old faults_new (waited ++ text)
-
--- the keys of calls are in range
-abbrev pub KeysFit : List (List Call) → Type 0
-KeysFit lists = AtEach lists (λ c calls. AtEach calls (λ n call. key_of call ≤ 18446744073709551612))
-
--- the lists are those that a text says
-pub record IsTrace (bytes : List ℕ) (callers : ℕ) (lists : List (List Call)) : Type 0 where
-  pub good : bad bytes callers ≡ None
-  pub lists_are : lists ≡ map (lines bytes callers) (upto 0 callers)
-  pub keys : KeysFit lists
-  pub short : AtEach lists (λ c calls. length calls ≤ 16777216)
-
--- why a trace was refused
-abbrev pub TraceCause : List ℕ → ℕ → TraceFault → Type 0
-TraceCause bytes callers (BadLine line why) = bad bytes callers ≡ Some (record { line = line; why = why })
-TraceCause bytes callers NoMemory = ⊤
 
 -- the caller of a made trace's line i, its call, and the state after it
 abbrev pub draw : ℕ → ℕ

@@ -1,6 +1,10 @@
 //! Traces of map calls: their grammar, made traces, and the printed text of a run.
 #![tactic(auto)]
 
+mod lists;
+
+pub use lists::Trace;
+
 /// Why a line of a trace is bad, by the first of these that holds.
 #[derive(Clone, Copy, Debug, PartialEq, Eq)]
 pub enum Why {
