@@ -2,8 +2,10 @@
 #![tactic(auto)]
 
 mod lists;
+mod scanning;
 
 pub use lists::Trace;
+pub use scanning::{Number, Span, next_field, next_line, read_number};
 
 /// Why a line of a trace is bad, by the first of these that holds.
 #[derive(Clone, Copy, Debug, PartialEq, Eq)]
