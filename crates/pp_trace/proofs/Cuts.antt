@@ -1,12 +1,14 @@
 -- The first line of a text and the first field of a line, cut off.
-use Rattle.std.proofs.Common.{◌≡◌, ℕ, ◌+◌, ◌-◌, ◌<◌, ◌≤◌, min, Bool, cond, ltb, true, false, List, [], ◌∷◌, ◌++◌, length, map, take, drop, get_or, refl, ap, ◌∙◌, sym, ⊎_elim, arith, rules, tests}
+use Rattle.std.proofs.Common.{◌≡◌, ℕ, suc, ◌+◌, ◌-◌, ◌<◌, ◌≤◌, min, Bool, cond, ltb, not, true, false, List, [], ◌∷◌, ◌++◌, length, map, take, drop, get_or, refl, ap, ◌∙◌, sym, ⊎_elim, arith, rules, tests}
 use Rattle.std.specs.List.{filter, slice_split, onto_first, between, before_first, after_first, position_or_len}
 use Rattle.std.specs.Str.Lines.{strip_carriage_return}
-use Rattle.std.proofs.lemmas.Bool.{cases_lt, cases_Bool, lt-ltb}
-use Rattle.std.proofs.lemmas.List.{take_all, drop_all, take-take, drop-drop, drop_min, length-drop}
+use Rattle.std.proofs.lemmas.Bool.{cases_lt, cases_Bool, lt-ltb, not-true}
+use Rattle.std.proofs.lemmas.List.{take_all, drop_all, take-take, drop-drop, drop_min, drop_more, drop-take, length-drop}
 use Rattle.std.proofs.lemmas.List.Edits.{length-between}
+use Rattle.std.proofs.lemmas.List.Folds.{length-prefix_len}
+use Rattle.std.proofs.lemmas.List.Sums.{passes_at_first}
 use Rattle.std.proofs.lemmas.List.Splits.{slice_split_first, slice_split_none, length-slice_split}
-use Rattle.pp_trace.specs.Lines.{IsLineAt, IsFirstField, is_line_feed, is_blank, is_some_text, without_empty_last, lines_of, fields_of}
+use Rattle.pp_trace.specs.Lines.{IsLineAt, IsFirstField, is_line_feed, is_blank, is_field_byte, is_some_text, without_empty_last, lines_of, fields_of}
 use Rattle.pp_trace.proofs.Places.{position_or_len-le, none-passes}
 
 without_empty_last-cons : (part : List ℕ) (parts : List (List ℕ)) → 0 < length parts
@@ -60,4 +62,95 @@ line_at text from n r next some place within cut e =
       longer = omega arith;
       lines = first ∙ ap (λ l. l ∷ lines_of (after_first is_line_feed rest)) (sym line) ∙ ap (λ t. between from (from + r) text ∷ lines_of t) (sym after);
       rest = after;
+    }
+
+-- a part of a part
+between_later : (text : List ℕ) (from end k : ℕ) → from + k ≤ end → between (from + k) end text ≡ drop k (between from end text)
+between_later text from end k within =
+    let m = end - (from + k) in
+    let split : end - from ≡ k + m = omega arith in
+    ap (take m) (sym (drop-drop k from text)) ∙ sym (drop-take k m (drop from text)) ∙ ap (λ j. drop k (take j (drop from text))) (sym split)
+
+fields_of-blank : (byte : ℕ) (line : List ℕ) → is_blank byte ≡ true → fields_of (byte ∷ line) ≡ fields_of line
+fields_of-blank byte line blank = rw blank refl
+
+-- blanks at the front part no fields
+fields_of-drop : (line : List ℕ) → fields_of line ≡ fields_of (drop (position_or_len is_field_byte line) line)
+fields_of-drop [] = refl
+fields_of-drop (byte ∷ line) =
+    ⊎_elim
+        (λ blank.
+            let k = position_or_len is_field_byte line in
+            let next : position_or_len is_field_byte (byte ∷ line) ≡ suc k = rw blank (omega arith) in
+            fields_of-blank byte line blank ∙ fields_of-drop line ∙ ap (λ j. fields_of (drop j (byte ∷ line))) (sym next))
+        (λ field.
+            let here : position_or_len is_field_byte (byte ∷ line) ≡ 0 = rw field refl in
+            ap (λ j. fields_of (drop j (byte ∷ line))) (sym here))
+        (cases_Bool (is_blank byte))
+
+filter-cons : (part : List ℕ) (parts : List (List ℕ)) → 0 < length part → filter is_some_text (part ∷ parts) ≡ part ∷ filter is_some_text parts
+filter-cons part parts some = let full = lt-ltb 0 (length part) some in rw full refl
+
+-- a line that begins with a byte of a field begins with that field
+first_field : (line : List ℕ) → 0 < position_or_len is_blank line
+    → fields_of line ≡ before_first is_blank line ∷ fields_of (drop (position_or_len is_blank line) line)
+first_field line some =
+    let n = position_or_len is_blank line in
+    let before = before_first is_blank line in
+    let rest = after_first is_blank line in
+    let len = length-prefix_len (λ x. not (is_blank x)) line in
+    let reach = position_or_len-le is_blank line in
+    ⊎_elim
+        (λ cut.
+            let parts = slice_split_first is_blank line 0 cut in
+            let behind = ap fields_of (drop_more line n 0 cut) ∙ fields_of-blank (get_or line n 0) rest (passes_at_first is_blank line 0 cut) in
+            ap (filter is_some_text) parts ∙ filter-cons before (slice_split is_blank rest) (omega arith) ∙ ap (λ fields. before ∷ fields) (sym behind))
+        (λ whole.
+            let parts = uncut is_blank line whole in
+            let behind : fields_of (drop n line) ≡ [] = ap fields_of (drop_all n line whole) in
+            ap (filter is_some_text) parts ∙ filter-cons line [] (omega arith) ∙ ap (λ part. part ∷ []) (sym (take_all n line whole))
+            ∙ ap (λ fields. before ∷ fields) (sym behind))
+        (cases_lt n (length line))
+
+field_begins : (range : List ℕ) → position_or_len is_field_byte range < length range
+    → 0 < position_or_len is_blank (drop (position_or_len is_field_byte range) range)
+field_begins range within =
+    let k = position_or_len is_field_byte range in
+    let rest = drop_more range k 0 within in
+    let field = not-true (is_blank (get_or range k 0)) (passes_at_first is_field_byte range 0 within) in
+    rw (rest, field) (omega arith)
+
+-- where only blanks stand between two places, there is no field
+pub no_field_at : (text : List ℕ) (from end k : ℕ) → end ≤ length text → k ≡ position_or_len is_field_byte (between from end text)
+    → from + k ≡ end → fields_of (between from end text) ≡ []
+no_field_at text from end k within blanks all =
+    let range = between from end text in
+    let len = length-between text from end within in
+    fields_of-drop range ∙ ap fields_of (drop_all (position_or_len is_field_byte range) range (omega arith))
+
+-- the first field between two places, where k blanks stand before it, and it has n bytes
+pub field_at : (text : List ℕ) (from end k n : ℕ) → from ≤ end → end ≤ length text → k ≡ position_or_len is_field_byte (between from end text)
+    → (from + k ≡ end → ⊥) → n ≡ position_or_len is_blank (between (from + k) end text)
+    → IsFirstField text from end (record { start = from + k; end = from + k + n; next = from + k + n })
+field_at text from end k n order within blanks some size =
+    let range = between from end text in
+    let len = length-between text from end within in
+    let reach : k ≤ length range = rw blanks (position_or_len-le is_field_byte range) in
+    let later = between_later text from end k (omega arith) in
+    let tail = between (from + k) end text in
+    let long : n ≤ length tail = rw size (position_or_len-le is_blank tail) in
+    let tail-len = length-between text (from + k) end within in
+    let begins : 0 < position_or_len is_blank tail = rw (later, blanks) (field_begins range (omega arith)) in
+    let n-from : from + k + n - (from + k) ≡ n = omega arith in
+    let inner : n ≤ end - (from + k) = omega arith in
+    let field : between (from + k) (from + k + n) text ≡ before_first is_blank tail =
+        ap (λ j. take j (drop (from + k) text)) n-from ∙ sym (take-take n (end - (from + k)) (drop (from + k) text) inner) ∙ ap (λ j. take j tail) size in
+    let rest : between (from + k + n) end text ≡ drop (position_or_len is_blank tail) tail =
+        between_later text (from + k) end n (omega arith) ∙ ap (λ j. drop j tail) size in
+    let skipped : fields_of range ≡ fields_of tail = fields_of-drop range ∙ ap (λ j. fields_of (drop j range)) (sym blanks) ∙ ap fields_of (sym later) in
+    record {
+      within = (omega arith, omega arith, omega arith);
+      next = refl;
+      fields = skipped ∙ first_field tail begins ∙ ap (λ part. part ∷ fields_of (drop (position_or_len is_blank tail) tail)) (sym field)
+        ∙ ap (λ line. between (from + k) (from + k + n) text ∷ fields_of line) (sym rest);
     }
