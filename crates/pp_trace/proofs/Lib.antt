@@ -1,1 +1,6 @@
 pub mod Buffered
+pub mod Places
+pub mod Cuts
+pub mod Digits
+pub mod MadeLines
+pub mod Tallies

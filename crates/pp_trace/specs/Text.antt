@@ -1,5 +1,5 @@
 -- The text of a run's answers and contents.
-use Rattle.std.specs.Prelude.{◌≡◌, ℕ, ◌+◌, Bool, true, false, cond, nat_eq, List, [], ◌∷◌, ◌++◌, length, map, codes, count_by}
+use Rattle.std.specs.Prelude.{◌≡◌, ℕ, ◌+◌, Bool, true, false, cond, nat_eq, List, [], ◌∷◌, ◌++◌, length, map, codes, count_by, sum_by}
 use Rattle.std.specs.Fmt.{decimal}
 use Rattle.std.specs.List.{flat_map}
 use Rattle.pp_model.specs.declared.Reply.{Reply}
@@ -55,8 +55,7 @@ out answers contents = callers_text 0 answers ++ contents_text contents
 
 -- how many answers of all callers a test takes
 abbrev pub count_all : (Answer → Bool) → List (List Answer) → ℕ
-count_all test [] = 0
-count_all test (answers ∷ rest) = count_by test answers + count_all test rest
+count_all test answers = sum_by (count_by test) answers
 
 abbrev pub is_full : Answer → Bool
 is_full (Said r) = false
@@ -108,31 +107,34 @@ is_took Added = false
 is_took (Held v) = false
 is_took (Took v) = true
 
--- nine lines, from the counts alone
+-- how many answers of all callers there are of each kind
+abbrev pub counts_of : List (List Answer) → Counts
+counts_of answers = record {
+  added = count_all (is_said is_added) answers;
+  held = count_all (is_said is_held) answers;
+  value = count_all (is_said is_value) answers;
+  absent = count_all (is_said is_absent) answers;
+  took = count_all (is_said is_took) answers;
+  full = count_all is_full answers;
+  lost = count_all is_lost answers;
+}
+
+-- the nine lines of a made trace: its lines, the counts of its answers, and the number of pairs
 abbrev pub counts_text : ℕ → Counts → ℕ → List ℕ
-counts_text lines c pairs =
+counts_text lines counts pairs =
     counted_line (codes "made ") lines
-    ++ counted_line (codes "added ") c.added
-    ++ counted_line (codes "held ") c.held
-    ++ counted_line (codes "value ") c.value
-    ++ counted_line (codes "absent ") c.absent
-    ++ counted_line (codes "took ") c.took
-    ++ counted_line (codes "full ") c.full
-    ++ counted_line (codes "lost ") c.lost
+    ++ counted_line (codes "added ") counts.added
+    ++ counted_line (codes "held ") counts.held
+    ++ counted_line (codes "value ") counts.value
+    ++ counted_line (codes "absent ") counts.absent
+    ++ counted_line (codes "took ") counts.took
+    ++ counted_line (codes "full ") counts.full
+    ++ counted_line (codes "lost ") counts.lost
     ++ counted_line (codes "contents ") pairs
 
 -- the output of a made trace
 abbrev pub summary : ℕ → List (List Answer) → List Pair → List ℕ
-summary lines answers contents =
-    counted_line (codes "made ") lines
-    ++ counted_line (codes "added ") (count_all (is_said is_added) answers)
-    ++ counted_line (codes "held ") (count_all (is_said is_held) answers)
-    ++ counted_line (codes "value ") (count_all (is_said is_value) answers)
-    ++ counted_line (codes "absent ") (count_all (is_said is_absent) answers)
-    ++ counted_line (codes "took ") (count_all (is_said is_took) answers)
-    ++ counted_line (codes "full ") (count_all is_full answers)
-    ++ counted_line (codes "lost ") (count_all is_lost answers)
-    ++ counted_line (codes "contents ") (length contents)
+summary lines answers contents = counts_text lines (counts_of answers) (length contents)
 
 abbrev pub why_text : Why → List ℕ
 why_text why.Caller = codes "caller"
