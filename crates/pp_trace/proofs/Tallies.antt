@@ -6,7 +6,7 @@ use Rattle.std.proofs.lemmas.List.Sums.{count_by-le-length, sum_by-append, sum_b
 use Rattle.pp_model.specs.declared.Answer.{Answer}
 use Rattle.pp_model.specs.declared.Pair.{Pair}
 use Rattle.pp_trace.specs.declared.Counts.{Counts}
-use Rattle.pp_trace.specs.Text.{is_said, is_added, is_held, is_value, is_absent, is_took, is_full, is_lost, count_all, counts_of, counts_text, summary}
+use Rattle.pp_trace.specs.Text.{is_added, is_held, is_value, is_absent, is_took, is_full, is_lost, count_all, counts_of, counts_text, summary}
 use Rattle.pp_trace.specs.Counting.{HasRoom, CountsAlso}
 
 -- where the counts are those of the answers, the nine lines are the summary
