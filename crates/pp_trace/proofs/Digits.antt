@@ -33,12 +33,12 @@ no_number-at text i within other =
 pub number_with_digit-is : (n digit : ℕ) → number_with_digit (as_number (Some n)) digit ≡ as_number (Some (n * 10 + digit))
 number_with_digit-is n digit =
     ⊎_elim
-        (λ low. let fits = lt-ltb n (2 ^ 128) low in rw fits refl)
-        (λ high.
-            let above = le-ltb n (2 ^ 128) high in
-            let still = le-ltb (n * 10 + digit) (2 ^ 128) (omega arith) in
-            rw (above, still) refl)
-        (cases_lt n (2 ^ 128))
+    (λ low. let fits = lt-ltb n (2 ^ 128) low in rw fits refl)
+    (λ high.
+    let above = le-ltb n (2 ^ 128) high in
+    let still = le-ltb (n * 10 + digit) (2 ^ 128) (omega arith) in
+    rw (above, still) refl)
+    (cases_lt n (2 ^ 128))
 
 digit_value-is : (byte : ℕ) → is_ascii_digit byte ≡ true → digit_value byte ≡ byte - 48
 digit_value-is byte digit = grind (arith, nat_tests)
