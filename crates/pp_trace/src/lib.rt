@@ -2,9 +2,11 @@
 #![tactic(auto)]
 
 mod lists;
+mod parsing;
 mod scanning;
 
 pub use lists::Trace;
+pub use parsing::parse;
 pub use scanning::{Number, Span, next_field, next_line, read_number};
 
 /// Why a line of a trace is bad, by the first of these that holds.
