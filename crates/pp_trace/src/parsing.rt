@@ -178,3 +178,6 @@ pub fn parse(alloc: Global, bytes: &[u8], callers: u32) -> Result<Trace, TraceFa
     }
     Ok(trace)
 }
+
+#[cfg(test)]
+mod tests;
