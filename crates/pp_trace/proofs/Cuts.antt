@@ -1,6 +1,6 @@
 -- The first line of a text and the first field of a line, cut off.
-use Rattle.std.proofs.Common.{◌≡◌, ℕ, suc, ◌+◌, ◌-◌, ◌<◌, ◌≤◌, min, Bool, cond, ltb, not, true, false, List, [], ◌∷◌, ◌++◌, length, map, take, drop, get_or, refl, ap, ◌∙◌, sym, ⊎_elim, arith, rules, tests}
-use Rattle.std.specs.List.{filter, slice_split, onto_first, between, before_first, after_first, position_or_len}
+use Rattle.std.proofs.Common.{◌≡◌, ℕ, suc, ◌+◌, ◌-◌, ◌<◌, ◌≤◌, min, Bool, not, true, List, [], ◌∷◌, length, map, take, drop, get_or, refl, ap, ◌∙◌, sym, ⊎_elim, arith}
+use Rattle.std.specs.List.{filter, slice_split, between, before_first, after_first, position_or_len}
 use Rattle.std.specs.Str.Lines.{strip_carriage_return}
 use Rattle.std.proofs.lemmas.Bool.{cases_lt, cases_Bool, lt-ltb, not-true}
 use Rattle.std.proofs.lemmas.List.{take_all, drop_all, take-take, drop-drop, drop_min, drop_more, drop-take, length-drop}
@@ -25,17 +25,17 @@ pub first_line : (text : List ℕ) → 0 < length text
 first_line text some =
     let rest = after_first is_line_feed text in
     ⊎_elim
-        (λ cut.
-            let e = slice_split_first is_line_feed text 0 cut in
-            let parts = length-slice_split is_line_feed rest in
-            rw e (ap (map strip_carriage_return) (without_empty_last-cons (before_first is_line_feed text) (slice_split is_line_feed rest) (omega arith))))
-        (λ whole.
-            let e = uncut is_line_feed text whole in
-            let before : before_first is_line_feed text ≡ text = take_all _ text whole in
-            let after : rest ≡ [] = drop_all _ text (omega arith) in
-            let full : is_some_text text ≡ true = lt-ltb 0 (length text) some in
-            rw (e, full, before, after) refl)
-        (cases_lt (position_or_len is_line_feed text) (length text))
+    (λ cut.
+    let e = slice_split_first is_line_feed text 0 cut in
+    let parts = length-slice_split is_line_feed rest in
+    rw e (ap (map strip_carriage_return) (without_empty_last-cons (before_first is_line_feed text) (slice_split is_line_feed rest) (omega arith))))
+    (λ whole.
+    let e = uncut is_line_feed text whole in
+    let before : before_first is_line_feed text ≡ text = take_all _ text whole in
+    let after : rest ≡ [] = drop_all _ text (omega arith) in
+    let full : is_some_text text ≡ true = lt-ltb 0 (length text) some in
+    rw (e, full, before, after) refl)
+    (cases_lt (position_or_len is_line_feed text) (length text))
 
 -- the line at a place, where its line feed stands n bytes on, and r of those bytes stand before the carriage return
 pub line_at : (text : List ℕ) (from n r next : ℕ) → from < length text → n ≡ position_or_len is_line_feed (drop from text)
@@ -51,10 +51,10 @@ line_at text from n r next some place within cut e =
     let r-from : from + r - from ≡ r = omega arith in
     let body : between from (from + n) text ≡ before_first is_line_feed rest = ap (λ k. take k rest) (n-from ∙ place) in
     let line : between from (from + r) text ≡ strip_carriage_return (before_first is_line_feed rest) =
-        ap (λ k. take k rest) r-from ∙ sym (take-take r n rest inner) ∙ ap (λ k. take r (take k rest)) (sym n-from) ∙ cut ∙ ap strip_carriage_return body in
+    ap (λ k. take k rest) r-from ∙ sym (take-take r n rest inner) ∙ ap (λ k. take r (take k rest)) (sym n-from) ∙ cut ∙ ap strip_carriage_return body in
     let after : drop next text ≡ after_first is_line_feed rest =
-        ap (λ k. drop k text) e ∙ drop_min (from + n + 1) text ∙ ap (λ k. drop k text) (let same : from + n + 1 ≡ from + (n + 1) = omega arith in same) ∙ sym (drop-drop (n + 1) from text)
-            ∙ ap (λ k. drop (k + 1) rest) place in
+    ap (λ k. drop k text) e ∙ drop_min (from + n + 1) text ∙ ap (λ k. drop k text) (let same : from + n + 1 ≡ from + (n + 1) = omega arith in same) ∙ sym (drop-drop (n + 1) from text)
+    ∙ ap (λ k. drop (k + 1) rest) place in
     let first = first_line rest (omega arith) in
     record {
       begins = refl;
@@ -79,14 +79,14 @@ fields_of-drop : (line : List ℕ) → fields_of line ≡ fields_of (drop (posit
 fields_of-drop [] = refl
 fields_of-drop (byte ∷ line) =
     ⊎_elim
-        (λ blank.
-            let k = position_or_len is_field_byte line in
-            let next : position_or_len is_field_byte (byte ∷ line) ≡ suc k = rw blank (omega arith) in
-            fields_of-blank byte line blank ∙ fields_of-drop line ∙ ap (λ j. fields_of (drop j (byte ∷ line))) (sym next))
-        (λ field.
-            let here : position_or_len is_field_byte (byte ∷ line) ≡ 0 = rw field refl in
-            ap (λ j. fields_of (drop j (byte ∷ line))) (sym here))
-        (cases_Bool (is_blank byte))
+    (λ blank.
+    let k = position_or_len is_field_byte line in
+    let next : position_or_len is_field_byte (byte ∷ line) ≡ suc k = rw blank (omega arith) in
+    fields_of-blank byte line blank ∙ fields_of-drop line ∙ ap (λ j. fields_of (drop j (byte ∷ line))) (sym next))
+    (λ field.
+    let here : position_or_len is_field_byte (byte ∷ line) ≡ 0 = rw field refl in
+    ap (λ j. fields_of (drop j (byte ∷ line))) (sym here))
+    (cases_Bool (is_blank byte))
 
 filter-cons : (part : List ℕ) (parts : List (List ℕ)) → 0 < length part → filter is_some_text (part ∷ parts) ≡ part ∷ filter is_some_text parts
 filter-cons part parts some = let full = lt-ltb 0 (length part) some in rw full refl
@@ -101,16 +101,16 @@ first_field line some =
     let len = length-prefix_len (λ x. not (is_blank x)) line in
     let reach = position_or_len-le is_blank line in
     ⊎_elim
-        (λ cut.
-            let parts = slice_split_first is_blank line 0 cut in
-            let behind = ap fields_of (drop_more line n 0 cut) ∙ fields_of-blank (get_or line n 0) rest (passes_at_first is_blank line 0 cut) in
-            ap (filter is_some_text) parts ∙ filter-cons before (slice_split is_blank rest) (omega arith) ∙ ap (λ fields. before ∷ fields) (sym behind))
-        (λ whole.
-            let parts = uncut is_blank line whole in
-            let behind : fields_of (drop n line) ≡ [] = ap fields_of (drop_all n line whole) in
-            ap (filter is_some_text) parts ∙ filter-cons line [] (omega arith) ∙ ap (λ part. part ∷ []) (sym (take_all n line whole))
-            ∙ ap (λ fields. before ∷ fields) (sym behind))
-        (cases_lt n (length line))
+    (λ cut.
+    let parts = slice_split_first is_blank line 0 cut in
+    let behind = ap fields_of (drop_more line n 0 cut) ∙ fields_of-blank (get_or line n 0) rest (passes_at_first is_blank line 0 cut) in
+    ap (filter is_some_text) parts ∙ filter-cons before (slice_split is_blank rest) (omega arith) ∙ ap (λ fields. before ∷ fields) (sym behind))
+    (λ whole.
+    let parts = uncut is_blank line whole in
+    let behind : fields_of (drop n line) ≡ [] = ap fields_of (drop_all n line whole) in
+    ap (filter is_some_text) parts ∙ filter-cons line [] (omega arith) ∙ ap (λ part. part ∷ []) (sym (take_all n line whole))
+    ∙ ap (λ fields. before ∷ fields) (sym behind))
+    (cases_lt n (length line))
 
 field_begins : (range : List ℕ) → position_or_len is_field_byte range < length range
     → 0 < position_or_len is_blank (drop (position_or_len is_field_byte range) range)
@@ -144,13 +144,13 @@ field_at text from end k n order within blanks some size =
     let n-from : from + k + n - (from + k) ≡ n = omega arith in
     let inner : n ≤ end - (from + k) = omega arith in
     let field : between (from + k) (from + k + n) text ≡ before_first is_blank tail =
-        ap (λ j. take j (drop (from + k) text)) n-from ∙ sym (take-take n (end - (from + k)) (drop (from + k) text) inner) ∙ ap (λ j. take j tail) size in
+    ap (λ j. take j (drop (from + k) text)) n-from ∙ sym (take-take n (end - (from + k)) (drop (from + k) text) inner) ∙ ap (λ j. take j tail) size in
     let rest : between (from + k + n) end text ≡ drop (position_or_len is_blank tail) tail =
-        between_later text (from + k) end n (omega arith) ∙ ap (λ j. drop j tail) size in
+    between_later text (from + k) end n (omega arith) ∙ ap (λ j. drop j tail) size in
     let skipped : fields_of range ≡ fields_of tail = fields_of-drop range ∙ ap (λ j. fields_of (drop j range)) (sym blanks) ∙ ap fields_of (sym later) in
     record {
       within = (omega arith, omega arith, omega arith);
       next = refl;
       fields = skipped ∙ first_field tail begins ∙ ap (λ part. part ∷ fields_of (drop (position_or_len is_blank tail) tail)) (sym field)
-        ∙ ap (λ line. between (from + k) (from + k + n) text ∷ fields_of line) (sym rest);
+          ∙ ap (λ line. between (from + k) (from + k + n) text ∷ fields_of line) (sym rest);
     }

@@ -4,3 +4,6 @@ pub mod Cuts
 pub mod Digits
 pub mod MadeLines
 pub mod Tallies
+pub mod Growth
+pub mod Readings
+pub mod Limits

@@ -1,26 +1,21 @@
 -- One more line of a made trace, and the ranges of its keys and lists.
-use Rattle.std.proofs.Common.{◌≡◌, ◌≢◌, ℕ, zero, suc, ◌+◌, ◌*◌, ◌/◌, ◌%◌, ◌^◌, ◌<◌, ◌≤◌, Bool, true, false, cond, nat_eq, nat_lt, List, [], ◌∷◌, ◌++◌, length, map, filter, get_or, take, Some, refl, sym, ap, ◌∙◌, subst, add-one, add-zero, zero-add, append-nil, arith}
+use Rattle.std.proofs.Common.{◌≡◌, ◌≢◌, ℕ, zero, suc, ◌+◌, ◌*◌, ◌/◌, ◌%◌, ◌<◌, ◌≤◌, Bool, true, false, cond, nat_eq, nat_lt, List, [], ◌∷◌, ◌++◌, length, map, filter, get_or, refl, sym, ap, ◌∙◌, subst, add-one, add-zero, zero-add, append-nil, arith}
 use Rattle.std.proofs.Math.ListN.{set}
 use Rattle.std.proofs.Math.Nat.{mul-le-mul_right}
 use Rattle.std.proofs.lemmas.List.Sums.{length-filter, count_by-le-length}
-use Rattle.std.specs.Prelude.{slice_get, replicate}
+use Rattle.std.specs.Prelude.{replicate}
 use Rattle.std.specs.List.{range_with_len}
 use Rattle.std.proofs.lemmas.Bool.Decides.{nat_tests}
-use Rattle.std.proofs.lemmas.List.{map-append, map-set, get_or-map, length-map}
+use Rattle.std.proofs.lemmas.List.{map-append, length-map}
 use Rattle.std.proofs.lemmas.List.Elements.{filter-append}
 use Rattle.std.proofs.lemmas.List.FromFn.{get_or-map-range_with_len}
 use Rattle.pp_model.specs.declared.Call.{Call}
 use Rattle.pp_model.specs.declared.Call.TheVariants.{Get, Insert, Remove}
 use Rattle.pp_model.specs.Calls.{key_of}
 use Rattle.pp_model.specs.Lists.{upto, AtEach}
-use Rattle.pp_trace.specs.TraceLists.{KeysFit}
+use Rattle.pp_trace.specs.TraceLists.{KeysFit, with_call}
+use Rattle.pp_trace.proofs.Limits.{each-map}
 use Rattle.pp_trace.specs.MadeTrace.{draw, state, made_call, drawn_call, made_line, made, IsMade}
-
--- one element more in one of some lists
-pub map-set_push : {V A : Type 0} (f : V → List A) (xs : List V) (i : ℕ) (v w : V) (x : A) → i < length xs → w ≡ get_or xs i w → f v ≡ f w ++ x ∷ []
-    → map f (set xs i v) ≡ set (map f xs) i (get_or (map f xs) i [] ++ x ∷ [])
-map-set_push f xs i v w x lt at more =
-    map-set f xs i v ∙ ap (set (map f xs) i) (more ∙ ap (λ l. l ++ x ∷ []) (ap f at ∙ sym (get_or-map f xs i w [] lt)))
 
 pub state-next : (seed n : ℕ) → state seed (n + 1) ≡ draw (state seed n)
 state-next seed n = rw add-one
@@ -97,7 +92,7 @@ map-upto-set f g low (suc n) (suc i) y lt at others =
 
 -- the lists of n lines, with one more line in the list of its caller
 pub made-step : (seed n callers : ℕ) (lists : List (List Call)) → 0 < callers → lists ≡ map (made seed n callers) (upto 0 callers)
-    → set lists (n % callers) (get_or lists (n % callers) [] ++ made_line seed callers n ∷ []) ≡ map (made seed (n + 1) callers) (upto 0 callers)
+    → with_call lists (n % callers) (made_line seed callers n) ≡ map (made seed (n + 1) callers) (upto 0 callers)
 made-step seed n callers lists some is =
     let c = n % callers in
     let lt : c < callers = omega arith in
@@ -124,14 +119,6 @@ made-none seed callers = empty 0 callers
     empty : (low n : ℕ) → replicate n [] ≡ map (made seed 0 callers) (upto low n)
     empty low zero = refl
     empty low (suc n) = ap (λ l. [] ∷ l) (empty (low + 1) n)
-
-AtEach-map : {A B : Type 0} (f : A → B) (xs : List A) (P : B → Type 0) → ((x : A) → P (f x)) → AtEach (map f xs) (λ k y. P y)
-AtEach-map f [] P h = λ k y e. absurd cc
-AtEach-map {A} {B} f (x ∷ xs) P h = λ k y e. first_or_later (f x) (map f xs) k y e (h x) (AtEach-map f xs P h)
-  where
-    first_or_later : (z : B) (zs : List B) (k : ℕ) (y : B) → slice_get (z ∷ zs) k ≡ Some y → P z → AtEach zs (λ j w. P w) → P y
-    first_or_later z zs zero y e here later = let same : z ≡ y = cc in subst P same here
-    first_or_later z zs (suc k) y e here later = later k y e
 
 key_of-made_call : (kind key value : ℕ) → key_of (made_call kind key value) ≡ key
 key_of-made_call kind key value =
@@ -162,18 +149,18 @@ length-made-le seed count callers c =
         count_by-le-length p (upto 0 count), length-upto 0 count)
 
 -- as many lists as callers
-pub length-lists : {V A : Type 0} (f : V → A) (g : ℕ → A) (xs : List V) (n : ℕ) → map f xs ≡ map g (upto 0 n) → length xs ≡ n
-length-lists f g xs n is = sym (length-map xs f) ∙ ap length is ∙ length-map (upto 0 n) g ∙ length-upto 0 n
+pub length-lists : {A : Type 0} (g : ℕ → A) (xs : List A) (n : ℕ) → xs ≡ map g (upto 0 n) → length xs ≡ n
+length-lists g xs n is = ap length is ∙ length-map (upto 0 n) g ∙ length-upto 0 n
 
 -- lists that are the generator's have keys in range and are short
 pub IsMade-lists : (seed count callers : ℕ) (lists : List (List Call)) → 0 < callers → callers ≤ 64 → count ≤ 1000000
     → lists ≡ map (made seed count callers) (upto 0 callers) → IsMade seed count callers lists
 IsMade-lists seed count callers lists some few short is = record {
   lists_are = is;
-  keys = subst KeysFit (sym is) (AtEach-map (made seed count callers) (upto 0 callers) InRange
-    (λ c. AtEach-map (made_line seed callers) _ (λ call. key_of call ≤ 18446744073709551612) (λ i. key_of-made_line seed callers i some few)));
-  short = subst Short (sym is) (AtEach-map (made seed count callers) (upto 0 callers) (λ calls. length calls ≤ 16777216)
-    (λ c. omega (arith, length-made-le seed count callers c)));
+  keys = subst KeysFit (sym is) (each-map InRange (made seed count callers)
+    (λ c. each-map (λ call. key_of call ≤ 18446744073709551612) (made_line seed callers) (λ i. key_of-made_line seed callers i some few) _) (upto 0 callers));
+  short = subst Short (sym is) (each-map (λ calls. length calls ≤ 16777216) (made seed count callers)
+    (λ c. omega (arith, length-made-le seed count callers c)) (upto 0 callers));
 }
   where
     InRange : List Call → Type 0

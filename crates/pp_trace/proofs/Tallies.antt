@@ -1,12 +1,12 @@
 -- Counts of answers that grow by one more answer or one more list.
-use Rattle.std.proofs.Common.{◌≡◌, ℕ, ◌+◌, ◌^◌, ◌<◌, ◌≤◌, Bool, true, false, cond, List, [], ◌∷◌, ◌++◌, length, map, take, drop, get_or, take-append-drop, refl, sym, ap, ◌∙◌, subst, add_assoc, add-zero, arith}
+use Rattle.std.proofs.Common.{◌≡◌, ℕ, ◌+◌, ◌^◌, ◌<◌, ◌≤◌, Bool, cond, List, [], ◌∷◌, ◌++◌, length, map, take, get_or, refl, sym, ap, ◌∙◌, add-zero, arith}
 use Rattle.std.specs.Prelude.{count_by, sum_by}
 use Rattle.std.proofs.lemmas.List.{take_more, map-append}
 use Rattle.std.proofs.lemmas.List.Sums.{count_by-le-length, sum_by-append, sum_by-cons, sum_by_push, sum_by_more, sum_by-take-le}
 use Rattle.pp_model.specs.declared.Answer.{Answer}
 use Rattle.pp_model.specs.declared.Pair.{Pair}
 use Rattle.pp_trace.specs.declared.Counts.{Counts}
-use Rattle.pp_trace.specs.Text.{is_added, is_held, is_value, is_absent, is_took, is_full, is_lost, count_all, counts_of, counts_text, summary}
+use Rattle.pp_trace.specs.Text.{count_all, counts_of, counts_text, summary}
 use Rattle.pp_trace.specs.Counting.{HasRoom, CountsAlso}
 
 -- where the counts are those of the answers, the nine lines are the summary

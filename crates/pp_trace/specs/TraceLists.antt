@@ -1,11 +1,15 @@
 -- The lists that a trace says, and why it is refused.
-use Rattle.std.specs.Prelude.{◌≡◌, ℕ, ◌≤◌, List, map, length, Some, None, ⊤}
+use Rattle.std.specs.Prelude.{◌≡◌, ℕ, ◌≤◌, List, [], ◌∷◌, ◌++◌, map, length, slice_set, slice_index_or, Some, None, ⊤}
 use Rattle.pp_model.specs.declared.Call.{Call}
 use Rattle.pp_model.specs.Calls.{key_of}
 use Rattle.pp_model.specs.Lists.{upto, AtEach}
 use Rattle.pp_trace.specs.declared.TraceFault.{TraceFault}
 use Rattle.pp_trace.specs.declared.TraceFault.TheVariants.{BadLine, NoMemory}
 use Rattle.pp_trace.specs.Grammar.{lines, bad}
+
+-- the lists with one more call of a caller
+abbrev pub with_call : List (List Call) → ℕ → Call → List (List Call)
+with_call lists caller call = slice_set lists caller (slice_index_or lists caller [] ++ call ∷ [])
 
 -- the keys of calls are in range
 abbrev pub KeysFit : List (List Call) → Type 0

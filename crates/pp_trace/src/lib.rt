@@ -4,11 +4,13 @@
 mod counting;
 mod lists;
 mod made;
+mod parsing;
 mod printing;
 mod scanning;
 mod text;
 
 pub use lists::Trace;
+pub use parsing::parse;
 pub use printing::Printer;
 pub use scanning::{Number, Span, next_field, next_line, read_number};
 

@@ -1,12 +1,12 @@
 //! Traces made from a seed.
 
-ghost use Rattle.std.specs.Prelude.{◌≡◌, ℕ, ◌+◌, ◌*◌, ◌/◌, ◌%◌, ◌^◌, ◌<◌, ◌≤◌, List, [], ◌∷◌, ◌++◌, map, length, replicate, IfOk, OnOk, slice_index_or, slice_set};
-ghost use Rattle.pp_model.specs.declared.Call.{Call};
-ghost use Rattle.pp_trace.specs.MadeTrace.{draw, made_call, drawn_call, IsMade};
+ghost use Rattle.std.specs.Prelude.{◌≡◌, ℕ, ◌+◌, ◌*◌, ◌/◌, ◌%◌, ◌^◌, ◌<◌, ◌≤◌, List, [], map, replicate, IfOk};
+ghost use Rattle.pp_trace.specs.MadeTrace.{draw, made_call, drawn_call, made, IsMade};
+ghost use Rattle.pp_model.specs.Lists.{upto};
 
 use crate::{Make, Trace};
 use pp_model::{Call, NoMemory};
-use std::alloc::Global;
+use std::alloc::{AllocError, Global};
 
 fn draw_next(state: u64) -> u64
     requires { state < 2 ^ 31 }
@@ -34,33 +34,33 @@ fn drawn(callers: u32, caller: u32, first: u64, second: u64) -> Call
     call_of((first >> 16) % 4, key, second)
 }
 
-fn empty_lists(alloc: Global, callers: u32, room: usize) -> Result<Vec<Vec<Call>>, NoMemory>
-    ensures { IfOk result (λ v. map (λ calls. calls.items) v.items ≡ replicate callers []) }
+// Room for every call is taken at once, so that no list grows and is copied.
+fn with_room(alloc: Global, callers: u32, room: usize) -> Result<Trace, AllocError>
+    requires { callers ≤ 64 }
+    ensures { IfOk result (λ trace. trace ≡ replicate callers []) }
 {
-    let Ok(mut lists) = Vec::with_capacity(alloc, callers as usize) else {
-        return Err(NoMemory);
-    };
+    let mut lists = Vec::with_capacity(alloc, callers as usize)?;
     for _ in 0..callers {
-        let Ok(list) = Vec::with_capacity(alloc, room) else {
-            return Err(NoMemory);
-        };
-        let Ok(()) = lists.push(list) else {
-            return Err(NoMemory);
-        };
+        lists.push(Vec::with_capacity(alloc, room)?)?;
     }
-    Ok(lists)
+    Ok(Trace::new(lists))
 }
 
-fn keep(lists: &mut Vec<Vec<Call>>, caller: usize, call: Call) -> Result<(), NoMemory>
-    requires { caller < length lists.old.items }
-    ensures { OnOk result (map (λ calls. calls.items) lists.new.items
-        ≡ slice_set (map (λ calls. calls.items) lists.old.items) caller
-            (slice_index_or (map (λ calls. calls.items) lists.old.items) caller [] ++ call ∷ [])) }
+// The lines in their order, each put behind the list of the caller whose turn it is.
+fn make_lists(alloc: Global, make: Make, callers: u32) -> Result<Trace, AllocError>
+    requires callers { (1 ≤ callers) × (callers ≤ 64) }
+    requires seed { make.seed ≤ 2147483647 }
+    ensures { IfOk result (λ trace. trace ≡ map (made make.seed make.lines callers) (upto 0 callers)) }
 {
-    match lists[caller].push(call) {
-        Ok(()) => Ok(()),
-        Err(_) => Err(NoMemory),
+    let mut trace = with_room(alloc, callers, (make.lines / callers) as usize + 1)?;
+    let mut state = u64::from(make.seed);
+    for line in 0..make.lines {
+        let caller = line % callers;
+        let first = draw_next(state);
+        state = draw_next(first);
+        trace.push(caller, drawn(callers, caller, first, state))?;
     }
+    Ok(trace)
 }
 
 impl Trace {
@@ -76,14 +76,9 @@ impl Trace {
         requires limits { (make.seed ≤ 2147483647) × (make.lines ≤ 1000000) }
         ensures { IfOk result (IsMade make.seed make.lines callers) }
     {
-        let mut lists = empty_lists(alloc, callers, (make.lines / callers) as usize + 1)?;
-        let mut state = u64::from(make.seed);
-        for line in 0..make.lines {
-            let caller = line % callers;
-            let first = draw_next(state);
-            state = draw_next(first);
-            keep(&mut lists, caller as usize, drawn(callers, caller, first, state))?;
+        match make_lists(alloc, make, callers) {
+            Ok(trace) => Ok(trace),
+            Err(_) => Err(NoMemory),
         }
-        Ok(Trace::new(lists))
     }
 }

@@ -102,7 +102,9 @@ fn length_to_feed(text: &[u8]) -> usize
     ensures place { result ≡ position_or_len is_line_feed text.now }
     ensures within { result ≤ length text.now }
 {
-    text.iter().position(|byte| *byte == b'\n').unwrap_or(text.len())
+    text.iter()
+        .position(|byte| *byte == b'\n')
+        .unwrap_or(text.len())
 }
 
 fn length_without_return(line: &[u8]) -> usize
@@ -119,14 +121,18 @@ fn length_to_blank(text: &[u8]) -> usize
     ensures place { result ≡ position_or_len Rattle.pp_trace.specs.Lines.is_blank text.now }
     ensures within { result ≤ length text.now }
 {
-    text.iter().position(|byte| is_blank(*byte)).unwrap_or(text.len())
+    text.iter()
+        .position(|byte| is_blank(*byte))
+        .unwrap_or(text.len())
 }
 
 fn leading_blanks(text: &[u8]) -> usize
     ensures place { result ≡ position_or_len is_field_byte text.now }
     ensures within { result ≤ length text.now }
 {
-    text.iter().position(|byte| !is_blank(*byte)).unwrap_or(text.len())
+    text.iter()
+        .position(|byte| !is_blank(*byte))
+        .unwrap_or(text.len())
 }
 
 fn is_blank(byte: u8) -> bool

@@ -1,6 +1,6 @@
-use Rattle.std.proofs.Common.{◌≡◌, ◌≤◌, length, take, arith}
-use Rattle.std.proofs.lemmas.List.{length-take-le, take_more}
-use Rattle.pp_trace.proofs.Tallies.{CountsAlso-none, CountsAlso-then, HasRoom-after}
+use Rattle.std.proofs.Common.{arith}
+use Rattle.std.proofs.lemmas.List.{length-take-le}
+use Rattle.pp_trace.proofs.Tallies.{HasRoom-after}
 use Rattle.pp_trace.proofs.Counts.count_all.Goals as goal
 
 pub count-requires : goal.count-requires

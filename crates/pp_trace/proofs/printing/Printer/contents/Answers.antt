@@ -1,4 +1,4 @@
-use Rattle.std.proofs.Common.{◌<◌, ◌≡◌, ◌∙◌, length, codes, rules, arith}
+use Rattle.std.proofs.Common.{◌∙◌, length, codes}
 use Rattle.std.specs.List.{flat_map}
 use Rattle.std.proofs.lemmas.Result.{err_from_is_err_and}
 use Rattle.pp_trace.specs.Text.{counted_line, pair_line}

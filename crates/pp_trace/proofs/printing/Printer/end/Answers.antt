@@ -1,6 +1,6 @@
 use Rattle.std.proofs.Common.{arith}
 use Rattle.std.proofs.lemmas.Result.{err_from_is_err_and}
-use Rattle.pp_trace.proofs.Buffered.{Prints-then, Broke-then, HasCause-since}
+use Rattle.pp_trace.proofs.Buffered.{Prints-then, Broke-then}
 use Rattle.pp_trace.proofs.printing.Printer.end.Goals as goal
 
 pub loop-self-preserved : goal.loop-self-preserved

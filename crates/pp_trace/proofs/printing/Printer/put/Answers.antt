@@ -1,4 +1,4 @@
-use Rattle.std.proofs.Common.{◌<◌, ◌≡◌, length, rules, arith}
+use Rattle.std.proofs.Common.{◌<◌, ◌≡◌, length, rules}
 use Rattle.std.proofs.lemmas.Result.{err_from_is_err_and}
 use Rattle.pp_trace.proofs.Buffered.{Underway-none, Underway-written, Underway-kept, Puts-done, Puts-failed}
 use Rattle.pp_trace.proofs.printing.Printer.put.Goals as goal
