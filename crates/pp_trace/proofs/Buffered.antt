@@ -19,7 +19,7 @@ Prints-then {a} {b} {c} {w} {x} {y} {t} {u} p q = record {
   front = p.front ++ q.front;
   written = Appends-trans a b c p.front q.front p.written q.written;
   same = append_assoc p.front q.front y ∙ ap (λ l. p.front ++ l) q.same ∙ sym (append_assoc p.front x u)
-    ∙ ap (λ l. l ++ u) p.same ∙ append_assoc w t u;
+      ∙ ap (λ l. l ++ u) p.same ∙ append_assoc w t u;
 }
 
 -- a text, and then one that broke off
@@ -29,7 +29,7 @@ Broke-then {a} {b} {c} {w} {x} {y} {t} {u} p q = record {
   rest = q.rest;
   written = Appends-trans a b c p.front q.front p.written q.written;
   same = append_assoc p.front q.front (y ++ q.rest) ∙ ap (λ l. p.front ++ l) q.same ∙ sym (append_assoc p.front x u)
-    ∙ ap (λ l. l ++ u) p.same ∙ append_assoc w t u;
+      ∙ ap (λ l. l ++ u) p.same ∙ append_assoc w t u;
 }
 
 -- a text that broke off is the front of any longer one
@@ -39,19 +39,13 @@ Broke-longer {a} {b} {w} {x} {t} u p = record {
   rest = p.rest ++ u;
   written = p.written;
   same = ap (λ l. p.front ++ l) (sym (append_assoc x p.rest u)) ∙ sym (append_assoc p.front (x ++ p.rest) u)
-    ∙ ap (λ l. l ++ u) p.same ∙ append_assoc w t u;
+      ∙ ap (λ l. l ++ u) p.same ∙ append_assoc w t u;
 }
 
--- where all that waited was written, the sink took it and the text
-pub Appends-printed : {a b : Option (List ℕ)} {w t : List ℕ} → Prints a b w [] t → Appends a b (w ++ t)
-Appends-printed {a} {b} {w} {t} p =
-    let e : p.front ≡ w ++ t = sym (append-nil p.front) ∙ p.same in
-    Appends-at a b p.front (w ++ t) e p.written
-  where
-    Appends-at : (a b : Option (List ℕ)) (xs ys : List ℕ) → xs ≡ ys → Appends a b xs → Appends a b ys
-    Appends-at None b xs ys e h = tt
-    Appends-at (Some x) None xs ys e h = h
-    Appends-at (Some x) (Some y) xs ys e h = h ∙ ap (λ l. x ++ l) e
+Appends-same : (a b : Option (List ℕ)) (xs ys : List ℕ) → xs ≡ ys → Appends a b xs → Appends a b ys
+Appends-same None b xs ys e h = tt
+Appends-same (Some x) None xs ys e h = h
+Appends-same (Some x) (Some y) xs ys e h = h ∙ ap (λ l. x ++ l) e
 
 -- a sink that took nothing
 pub Broke-kept : (a b : Option (List ℕ)) (waited waits : List ℕ) → waits ≡ waited → Keeps a b → Broke a b waited waits []
@@ -84,7 +78,8 @@ pub record Underway {K : Type 0} (written : K → Option (List ℕ)) (faults : K
   pub fits : length was.waits + length text ≤ 65536 → (new ≡ old) × (is.waits ++ rest ≡ was.waits ++ text)
   pub whole : is.failed ≡ false
 
-pub Underway-none : {K : Type 0} (written : K → Option (List ℕ)) (faults : K → ℕ) (s : K) (p : Waiting) (text : List ℕ)
+pub Underway-none : {K : Type 0} (written : K → Option (List ℕ)) (faults : K → ℕ)
+    (s : K) (p : Waiting) (text : List ℕ)
     → p.failed ≡ false → Underway written faults s s p p text text
 Underway-none written faults s p text h = record {
   front = [];
@@ -96,7 +91,8 @@ Underway-none written faults s p text h = record {
 }
 
 -- a write, or none where there was room
-pub Underway-written : {K : Type 0} {written : K → Option (List ℕ)} {faults : K → ℕ} {old s t : K} {was p q : Waiting} {rest text : List ℕ}
+pub Underway-written : {K : Type 0} {written : K → Option (List ℕ)} {faults : K → ℕ}
+    {old s t : K} {was p q : Waiting} {rest text : List ℕ}
     → Underway written faults old s was p rest text → 0 < length rest
     → Prints (written s) (written t) p.waits q.waits [] → faults s ≤ faults t
     → (length p.waits < 65536 → Waits s t p.waits q.waits [] (Ok tt)) → q.failed ≡ false
@@ -105,20 +101,21 @@ Underway-written {K} {written} {faults} {old} {s} {t} {was} {p} {q} {rest} {text
   front = u.front ++ pr.front;
   grew = Appends-trans (written old) (written s) (written t) u.front pr.front u.grew pr.written;
   same = append_assoc u.front pr.front (q.waits ++ rest)
-    ∙ ap (λ l. u.front ++ l) (sym (append_assoc pr.front q.waits rest) ∙ ap (λ l. l ++ rest) (pr.same ∙ append-nil p.waits))
-    ∙ u.same;
+      ∙ ap (λ l. u.front ++ l) (sym (append_assoc pr.front q.waits rest) ∙ ap (λ l. l ++ rest) (pr.same ∙ append-nil p.waits))
+      ∙ u.same;
   later = omega (arith, u.later);
   fits = λ h.
-    let f = u.fits h in
-    let n : length p.waits + length rest ≡ length was.waits + length text =
+      let f = u.fits h in
+      let n : length p.waits + length rest ≡ length was.waits + length text =
       sym (length-append p.waits rest) ∙ ap length f.1 ∙ length-append was.waits text in
-    let r = roomy (omega (arith, n)) in
-    (r.untouched ∙ f.0, ap (λ l. l ++ rest) (r.behind ∙ append-nil p.waits) ∙ f.1);
+      let r = roomy (omega (arith, n)) in
+      (r.untouched ∙ f.0, ap (λ l. l ++ rest) (r.behind ∙ append-nil p.waits) ∙ f.1);
   whole = whole;
 }
 
 -- some of the rest went behind what waits
-pub Underway-kept : {K : Type 0} {written : K → Option (List ℕ)} {faults : K → ℕ} {old s : K} {was p q : Waiting} {rest left text : List ℕ}
+pub Underway-kept : {K : Type 0} {written : K → Option (List ℕ)} {faults : K → ℕ}
+    {old s : K} {was p q : Waiting} {rest left text : List ℕ}
     → Underway written faults old s was p rest text → q.waits ++ left ≡ p.waits ++ rest → q.failed ≡ p.failed
     → Underway written faults old s was q left text
 Underway-kept {K} {written} {faults} {old} {s} {was} {p} {q} {rest} {left} {text} u e f = record {
@@ -131,7 +128,8 @@ Underway-kept {K} {written} {faults} {old} {s} {was} {p} {q} {rest} {left} {text
 }
 
 -- nothing is left to print
-pub Puts-done : {K : Type 0} {written : K → Option (List ℕ)} {faults : K → ℕ} {old s : K} {was p : Waiting} {rest text : List ℕ}
+pub Puts-done : {K : Type 0} {written : K → Option (List ℕ)} {faults : K → ℕ}
+    {old s : K} {was p : Waiting} {rest text : List ℕ}
     → Underway written faults old s was p rest text → length rest ≡ 0 → Puts written faults old s was p text (Ok tt)
 Puts-done {rest = []} u h = record {
   printed = record { front = u.front; written = u.grew; same = ap (λ l. u.front ++ l) (sym (append-nil _)) ∙ u.same };
@@ -143,7 +141,8 @@ Puts-done {rest = []} u h = record {
 Puts-done {rest = x ∷ xs} u h = absurd (omega (arith, h))
 
 -- a write failed while the buffer was full
-pub Puts-failed : {K : Type 0} {written : K → Option (List ℕ)} {faults : K → ℕ} {old s t : K} {was p q : Waiting} {rest text : List ℕ} (e : Failed)
+pub Puts-failed : {K : Type 0} {written : K → Option (List ℕ)} {faults : K → ℕ}
+    {old s t : K} {was p q : Waiting} {rest text : List ℕ} (e : Failed)
     → Underway written faults old s was p rest text → 0 < length rest
     → Broke (written s) (written t) p.waits q.waits [] → HasCause {T = Unit {0}} (faults s) (faults t) (Err e)
     → (length p.waits < 65536 → Waits s t p.waits q.waits [] (Err e)) → length q.waits ≡ 65536 → q.failed ≡ true
@@ -154,17 +153,17 @@ Puts-failed {K} {written} {faults} {old} {s} {t} {was} {p} {q} {rest} {text} e u
     rest = br.rest ++ rest;
     written = Appends-trans (written old) (written s) (written t) u.front br.front u.grew br.written;
     same = append_assoc u.front br.front (q.waits ++ (br.rest ++ rest))
-      ∙ ap (λ l. u.front ++ l) (ap (λ l. br.front ++ l) (sym (append_assoc q.waits br.rest rest))
+        ∙ ap (λ l. u.front ++ l) (ap (λ l. br.front ++ l) (sym (append_assoc q.waits br.rest rest))
         ∙ sym (append_assoc br.front (q.waits ++ br.rest) rest) ∙ ap (λ l. l ++ rest) (br.same ∙ append-nil p.waits))
-      ∙ u.same;
+        ∙ u.same;
   };
   cause = HasCause-since (faults old) (faults s) (faults t) (Err e) u.later cause;
   fits = λ h.
-    let f = u.fits h in
-    let n : length p.waits + length rest ≡ length was.waits + length text =
+      let f = u.fits h in
+      let n : length p.waits + length rest ≡ length was.waits + length text =
       sym (length-append p.waits rest) ∙ ap length f.1 ∙ length-append was.waits text in
-    let r = roomy (omega (arith, n)) in
-    absurd (err_is_not_ok e r.ok);
+      let r = roomy (omega (arith, n)) in
+      absurd (err_is_not_ok e r.ok);
   full = full;
   failed = failed;
 }
@@ -173,27 +172,29 @@ Puts-failed {K} {written} {faults} {old} {s} {t} {was} {p} {q} {rest} {text} e u
     err_is_not_ok e h = cc
 
 -- no text
-pub Puts-none : {K : Type 0} (written : K → Option (List ℕ)) (faults : K → ℕ) (s : K) (p : Waiting) → p.failed ≡ false
+pub Puts-none : {K : Type 0} (written : K → Option (List ℕ)) (faults : K → ℕ)
+    (s : K) (p : Waiting) → p.failed ≡ false
     → Puts written faults s s p p [] (Ok tt)
 Puts-none written faults s p h = Puts-done (Underway-none written faults s p [] h) refl
 
 -- two texts, one after the other, of which the second may break off
-pub Puts-then : {K : Type 0} {written : K → Option (List ℕ)} {faults : K → ℕ} {s0 s1 s2 : K} {p0 p1 p2 : Waiting} {t u : List ℕ} (r : Result (Unit {0}) Failed)
+pub Puts-then : {K : Type 0} {written : K → Option (List ℕ)} {faults : K → ℕ}
+    {s0 s1 s2 : K} {p0 p1 p2 : Waiting} {t u : List ℕ} (r : Result (Unit {0}) Failed)
     → Puts written faults s0 s1 p0 p1 t (Ok tt) → Puts written faults s1 s2 p1 p2 u r
     → Puts written faults s0 s2 p0 p2 (t ++ u) r
 Puts-then {K} {written} {faults} {s0} {s1} {s2} {p0} {p1} {p2} {t} {u} r a b = record {
   printed = printed r a.printed b.printed;
   cause = HasCause-since (faults s0) (faults s1) (faults s2) r a.cause.later b.cause;
   fits = λ h.
-    let n = length-append t u in
-    let f = a.fits (omega (arith, n)) in
-    let m : length p1.waits ≡ length p0.waits + length t = ap length f.behind ∙ length-append p0.waits t in
-    let g = b.fits (omega (arith, n, m)) in
-    record {
-      untouched = g.untouched ∙ f.untouched;
-      behind = g.behind ∙ ap (λ l. l ++ u) f.behind ∙ append_assoc p0.waits t u;
-      ok = g.ok;
-    };
+      let n = length-append t u in
+      let f = a.fits (omega (arith, n)) in
+      let m : length p1.waits ≡ length p0.waits + length t = ap length f.behind ∙ length-append p0.waits t in
+      let g = b.fits (omega (arith, n, m)) in
+      record {
+        untouched = g.untouched ∙ f.untouched;
+        behind = g.behind ∙ ap (λ l. l ++ u) f.behind ∙ append_assoc p0.waits t u;
+        ok = g.ok;
+      };
   full = b.full;
   failed = b.failed;
 }
@@ -204,7 +205,8 @@ Puts-then {K} {written} {faults} {s0} {s1} {s2} {p0} {p1} {p2} {t} {u} r a b = r
     printed (Err e) a b = Broke-then a b
 
 -- a text that broke off is the front of any longer one
-pub Puts-longer : {K : Type 0} {written : K → Option (List ℕ)} {faults : K → ℕ} {s0 s1 : K} {p0 p1 : Waiting} {t : List ℕ} (u : List ℕ) (e : Failed)
+pub Puts-longer : {K : Type 0} {written : K → Option (List ℕ)} {faults : K → ℕ}
+    {s0 s1 : K} {p0 p1 : Waiting} {t : List ℕ} (u : List ℕ) (e : Failed)
     → Puts written faults s0 s1 p0 p1 t (Err e) → Puts written faults s0 s1 p0 p1 (t ++ u) (Err e)
 Puts-longer {K} {written} {faults} {s0} {s1} {p0} {p1} {t} u e a = record {
   printed = Broke-longer u a.printed;
@@ -218,37 +220,58 @@ Puts-longer {K} {written} {faults} {s0} {s1} {p0} {p1} {t} u e a = record {
     err_is_not_ok e h = cc
 
 -- the line of one more item
-pub Puts-item : {K : Type 0} {written : K → Option (List ℕ)} {faults : K → ℕ} {s0 s1 s2 : K} {p0 p1 p2 : Waiting} {A : Type 0} {t : List ℕ}
+pub Puts-item : {K : Type 0} {written : K → Option (List ℕ)} {faults : K → ℕ}
+    {s0 s1 s2 : K} {p0 p1 p2 : Waiting} {A : Type 0} {t : List ℕ}
     (h : List ℕ) (line : A → List ℕ) (xs : List A) (i : ℕ) (d : A) (r : Result (Unit {0}) Failed)
     → i < length xs → t ≡ line (get_or xs i d)
     → Puts written faults s0 s1 p0 p1 (h ++ flat_map line (take i xs)) (Ok tt) → Puts written faults s1 s2 p1 p2 t r
     → Puts written faults s0 s2 p0 p2 (h ++ flat_map line (take (i + 1) xs)) r
 Puts-item {K} {written} {faults} {s0} {s1} {s2} {p0} {p1} {p2} {A} {t} h line xs i d r lt is a b =
     let more : flat_map line (take (i + 1) xs) ≡ flat_map line (take i xs) ++ t =
-      ap (flat_map line) (take_more xs i d lt) ∙ flat_map-append line (take i xs) (get_or xs i d ∷ [])
-      ∙ ap (λ l. flat_map line (take i xs) ++ l) (append-nil (line (get_or xs i d)) ∙ sym is) in
+    ap (flat_map line) (take_more xs i d lt) ∙ flat_map-append line (take i xs) (get_or xs i d ∷ [])
+    ∙ ap (λ l. flat_map line (take i xs) ++ l) (append-nil (line (get_or xs i d)) ∙ sym is) in
     let text : (h ++ flat_map line (take i xs)) ++ t ≡ h ++ flat_map line (take (i + 1) xs) =
-      append_assoc h (flat_map line (take i xs)) t ∙ ap (λ l. h ++ l) (sym more) in
+    append_assoc h (flat_map line (take i xs)) t ∙ ap (λ l. h ++ l) (sym more) in
     let P : List ℕ → Type 0 = λ l. Puts written faults s0 s2 p0 p2 l r in
     subst P text (Puts-then r a b)
 
 -- lines that broke off are the front of all lines
-pub Puts-cut : {K : Type 0} {written : K → Option (List ℕ)} {faults : K → ℕ} {s0 s1 : K} {p0 p1 : Waiting} {A : Type 0}
+pub Puts-cut : {K : Type 0} {written : K → Option (List ℕ)} {faults : K → ℕ}
+    {s0 s1 : K} {p0 p1 : Waiting} {A : Type 0}
     (h : List ℕ) (line : A → List ℕ) (xs : List A) (n : ℕ) (e : Failed)
     → Puts written faults s0 s1 p0 p1 (h ++ flat_map line (take n xs)) (Err e)
     → Puts written faults s0 s1 p0 p1 (h ++ flat_map line xs) (Err e)
 Puts-cut {K} {written} {faults} {s0} {s1} {p0} {p1} h line xs n e a =
     let rest = flat_map line (drop n xs) in
     let text : (h ++ flat_map line (take n xs)) ++ rest ≡ h ++ flat_map line xs =
-      append_assoc h (flat_map line (take n xs)) rest
-      ∙ ap (λ l. h ++ l) (sym (flat_map-append line (take n xs) (drop n xs)) ∙ ap (flat_map line) (take-append-drop n xs)) in
+    append_assoc h (flat_map line (take n xs)) rest
+    ∙ ap (λ l. h ++ l) (sym (flat_map-append line (take n xs) (drop n xs)) ∙ ap (flat_map line) (take-append-drop n xs)) in
     let P : List ℕ → Type 0 = λ l. Puts written faults s0 s1 p0 p1 l (Err e) in
     subst P text (Puts-longer rest e a)
 
 -- a front that broke off
-pub Puts-front : {K : Type 0} {written : K → Option (List ℕ)} {faults : K → ℕ} {s0 s1 : K} {p0 p1 : Waiting} {t : List ℕ}
+pub Puts-front : {K : Type 0} {written : K → Option (List ℕ)} {faults : K → ℕ}
+    {s0 s1 : K} {p0 p1 : Waiting} {t : List ℕ}
     (h u : List ℕ) (e : Failed) → t ≡ h
     → Puts written faults s0 s1 p0 p1 t (Err e) → Puts written faults s0 s1 p0 p1 (h ++ u) (Err e)
 Puts-front {K} {written} {faults} {s0} {s1} {p0} {p1} h u e is a =
     let P : List ℕ → Type 0 = λ l. Puts written faults s0 s1 p0 p1 (l ++ u) (Err e) in
     subst P is (Puts-longer u e a)
+
+-- A fresh printer's text, and then its end: the sink took the text.
+pub Appends-ended : {K : Type 0} {written : K → Option (List ℕ)} {faults : K → ℕ}
+    {s0 s1 s2 : K} {p0 p1 : Waiting} {text left : List ℕ} → p0.waits ≡ [] → Puts written faults s0 s1 p0 p1 text (Ok tt)
+    → Prints (written s1) (written s2) p1.waits left [] → left ≡ [] → Appends (written s0) (written s2) text
+Appends-ended {K} {written} {faults} {s0} {s1} {s2} {p0} {p1} {text} {left} fresh a b none =
+    let p = Prints-then a.printed b in
+    let all : p.front ≡ text =
+    sym (append-nil p.front) ∙ ap (λ l. p.front ++ l) (sym none) ∙ p.same ∙ ap (λ l. l ++ (text ++ [])) fresh ∙ append-nil text in
+    Appends-same (written s0) (written s2) p.front text all p.written
+
+-- where its end failed, the sink took a front of the text
+pub GrewByPrefix-ended : {K : Type 0} {written : K → Option (List ℕ)} {faults : K → ℕ}
+    {s0 s1 s2 : K} {p0 p1 : Waiting} {text left : List ℕ} → p0.waits ≡ [] → Puts written faults s0 s1 p0 p1 text (Ok tt)
+    → Broke (written s1) (written s2) p1.waits left [] → GrewByPrefix (written s0) (written s2) text
+GrewByPrefix-ended {K} {written} {faults} {s0} {s1} {s2} {p0} {p1} {text} {left} fresh a b =
+    let p = Broke-then a.printed b in
+    (p.front, left ++ p.rest, sym (p.same ∙ ap (λ l. l ++ (text ++ [])) fresh ∙ append-nil text), p.written)

@@ -97,18 +97,19 @@ made-step seed n callers lists some is =
     let c = n % callers in
     let lt : c < callers = omega arith in
     let here : get_or lists c [] ≡ made seed n callers c =
-      ap (λ l. get_or l c []) is ∙ get_or-map-upto (made seed n callers) callers c [] lt in
+    ap (λ l. get_or l c []) is ∙ get_or-map-upto (made seed n callers) callers c [] lt in
     let L = made_line seed callers n ∷ [] in
     let own : made seed (n + 1) callers (0 + c) ≡ get_or lists c [] ++ L =
-      ap (made seed (n + 1) callers) (zero-add c) ∙ made-more seed n callers c
-      ∙ ap (λ b. made seed n callers c ++ cond b L []) (nat_eq-refl c) ∙ ap (λ l. l ++ L) (sym here) in
+    ap (made seed (n + 1) callers) (zero-add c) ∙ made-more seed n callers c
+    ∙ ap (λ b. made seed n callers c ++ cond b L []) (nat_eq-refl c) ∙ ap (λ l. l ++ L) (sym here) in
     ap (λ l. set l c (get_or lists c [] ++ L)) is
     ∙ map-upto-set (made seed n callers) (made seed (n + 1) callers) 0 callers c _ lt own
-        (λ d ne. made-more seed n callers d ∙ ap (λ b. made seed n callers d ++ cond b L []) (nat_eq-other c d (λ e. ne (e ∙ sym (zero-add c))))
-          ∙ append-nil (made seed n callers d))
+    (λ d ne. made-more seed n callers d ∙ ap (λ b. made seed n callers d ++ cond b L []) (nat_eq-other c d (λ e. ne (e ∙ sym (zero-add c))))
+    ∙ append-nil (made seed n callers d))
   where
     nat_eq-refl : (c : ℕ) → nat_eq c c ≡ true
     nat_eq-refl c = grind (arith, nat_tests)
+
     nat_eq-other : (c d : ℕ) → (d ≡ c → ⊥) → nat_eq c d ≡ false
     nat_eq-other c d ne = grind (arith, nat_tests)
 
@@ -123,8 +124,8 @@ made-none seed callers = empty 0 callers
 key_of-made_call : (kind key value : ℕ) → key_of (made_call kind key value) ≡ key
 key_of-made_call kind key value =
     elim (nat_lt kind 2) as (λ b. key_of (cond b (Insert key value) (cond (nat_eq kind 2) (Remove key) (Get key))) ≡ key) [
-      true ↦ refl
-    | false ↦ elim (nat_eq kind 2) as (λ b. key_of (cond b (Remove key) (Get key)) ≡ key) [ true ↦ refl | false ↦ refl ]
+      | true ↦ refl
+      | false ↦ elim (nat_eq kind 2) as (λ b. key_of (cond b (Remove key) (Get key)) ≡ key) [ true ↦ refl | false ↦ refl ]
     ]
 
 -- a key is below the callers' number times 4096
@@ -145,8 +146,13 @@ length-upto low (suc n) = ap suc (length-upto (low + 1) n)
 length-made-le : (seed count callers c : ℕ) → length (made seed count callers c) ≤ count
 length-made-le seed count callers c =
     let p = λ (i : ℕ). nat_eq (i % callers) c in
-    omega (arith, length-map (filter p (upto 0 count)) (made_line seed callers), length-filter p (upto 0 count),
-        count_by-le-length p (upto 0 count), length-upto 0 count)
+    omega (
+      arith,
+      length-map (filter p (upto 0 count)) (made_line seed callers),
+      length-filter p (upto 0 count),
+      count_by-le-length p (upto 0 count),
+      length-upto 0 count,
+    )
 
 -- as many lists as callers
 pub length-lists : {A : Type 0} (g : ℕ → A) (xs : List A) (n : ℕ) → xs ≡ map g (upto 0 n) → length xs ≡ n
@@ -158,12 +164,13 @@ pub IsMade-lists : (seed count callers : ℕ) (lists : List (List Call)) → 0 <
 IsMade-lists seed count callers lists some few short is = record {
   lists_are = is;
   keys = subst KeysFit (sym is) (each-map InRange (made seed count callers)
-    (λ c. each-map (λ call. key_of call ≤ 18446744073709551612) (made_line seed callers) (λ i. key_of-made_line seed callers i some few) _) (upto 0 callers));
+      (λ c. each-map (λ call. key_of call ≤ 18446744073709551612) (made_line seed callers) (λ i. key_of-made_line seed callers i some few) _) (upto 0 callers));
   short = subst Short (sym is) (each-map (λ calls. length calls ≤ 16777216) (made seed count callers)
-    (λ c. omega (arith, length-made-le seed count callers c)) (upto 0 callers));
+      (λ c. omega (arith, length-made-le seed count callers c)) (upto 0 callers));
 }
   where
     InRange : List Call → Type 0
     InRange calls = AtEach calls (λ n call. key_of call ≤ 18446744073709551612)
+
     Short : List (List Call) → Type 0
     Short lists = AtEach lists (λ c calls. length calls ≤ 16777216)

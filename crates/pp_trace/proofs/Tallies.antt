@@ -42,7 +42,8 @@ CountsAlso-then {a} {b} {c} {xs} {ys} p q = record {
     one test l m n first second = omega (arith, first, second, sum_by-append (λ x. cond (test x) 1 0) xs ys)
 
 -- room that is left after some answers
-pub HasRoom-after : {a b : Counts} {xs : List Answer} (room more : ℕ) → HasRoom a room → CountsAlso a b xs → length xs + more ≤ room → HasRoom b more
+pub HasRoom-after : {a b : Counts} {xs : List Answer} (room more : ℕ) → HasRoom a room → CountsAlso a b xs → length xs + more ≤ room
+    → HasRoom b more
 HasRoom-after {a} {b} {xs} room more h p fits = record {
   added = one _ a.added b.added h.added p.added;
   held = one _ a.held b.held h.held p.held;
@@ -77,19 +78,22 @@ same_counts a b added held value absent took full lost =
     ∙ ap (λ n. with_counts b.added b.held b.value b.absent b.took b.full n) lost
 
 -- the counts of one list more
-pub counts_of-push : (lists : List (List Answer)) (answers : List Answer) (old new : Counts) → old ≡ counts_of lists → CountsAlso old new answers
+pub counts_of-push : (lists : List (List Answer)) (answers : List Answer) (old new : Counts) → old ≡ counts_of lists
+    → CountsAlso old new answers
     → new ≡ counts_of (lists ++ answers ∷ [])
 counts_of-push lists answers old new is p =
     same_counts new (counts_of (lists ++ answers ∷ []))
-        (one _ _ _ (ap (λ c. c.added) is) p.added) (one _ _ _ (ap (λ c. c.held) is) p.held) (one _ _ _ (ap (λ c. c.value) is) p.value)
-        (one _ _ _ (ap (λ c. c.absent) is) p.absent) (one _ _ _ (ap (λ c. c.took) is) p.took) (one _ _ _ (ap (λ c. c.full) is) p.full)
-        (one _ _ _ (ap (λ c. c.lost) is) p.lost)
+    (one _ _ _ (ap (λ c. c.added) is) p.added) (one _ _ _ (ap (λ c. c.held) is) p.held) (one _ _ _ (ap (λ c. c.value) is) p.value)
+    (one _ _ _ (ap (λ c. c.absent) is) p.absent) (one _ _ _ (ap (λ c. c.took) is) p.took) (one _ _ _ (ap (λ c. c.full) is) p.full)
+    (one _ _ _ (ap (λ c. c.lost) is) p.lost)
   where
-    one : (test : Answer → Bool) (m n : ℕ) → m ≡ count_all test lists → n ≡ m + count_by test answers → n ≡ count_all test (lists ++ answers ∷ [])
+    one : (test : Answer → Bool) (m n : ℕ) → m ≡ count_all test lists → n ≡ m + count_by test answers
+        → n ≡ count_all test (lists ++ answers ∷ [])
     one test m n first second = omega (arith, first, second, sum_by_push (count_by test) lists answers)
 
 -- there is room for as many answers as make no more than this
-pub HasRoom-counts_of : (lists : List (List Answer)) (counts : Counts) (more : ℕ) → counts ≡ counts_of lists → sum_by length lists + more < 2 ^ 32
+pub HasRoom-counts_of : (lists : List (List Answer)) (counts : Counts) (more : ℕ) → counts ≡ counts_of lists
+    → sum_by length lists + more < 2 ^ 32
     → HasRoom counts more
 HasRoom-counts_of lists counts more is fits = record {
   added = one _ _ (ap (λ c. c.added) is);
@@ -116,8 +120,15 @@ pub HasRoom-next : {V : Type 0} (f : V → List Answer) (lists : List V) (i : �
 HasRoom-next f lists i x answers counts lt at same is fits =
     let many : length answers ≡ length (f (get_or lists i x)) = ap length (same ∙ ap f at) in
     HasRoom-counts_of (map f (take i lists)) counts (length answers) is
-        (omega (arith, fits, many, sum_by-map length f (take i lists), sum_by-map length f lists,
-            sum_by_more (λ x. length (f x)) lists i x lt, sum_by-take-le (λ x. length (f x)) lists (i + 1)))
+    (omega (
+      arith,
+      fits,
+      many,
+      sum_by-map length f (take i lists),
+      sum_by-map length f lists,
+      sum_by_more (λ x. length (f x)) lists i x lt,
+      sum_by-take-le (λ x. length (f x)) lists (i + 1),
+    ))
 
 -- and the counts are then those of one list more
 pub counts_of-next : {V : Type 0} (f : V → List Answer) (lists : List V) (i : ℕ) (x : V) (answers : List Answer) (old new : Counts)

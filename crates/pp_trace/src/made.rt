@@ -82,3 +82,6 @@ impl Trace {
         }
     }
 }
+
+#[cfg(test)]
+mod tests;

@@ -5,8 +5,7 @@ ghost use Rattle.pp_outside.specs.Outside.{HasCause};
 ghost use Rattle.pp_trace.specs.Printing.{Waiting, Printing, Waits, Puts};
 ghost use Rattle.pp_trace.specs.Text.{answer_line, contents_text, counts_text};
 
-use crate::Counts;
-use crate::text;
+use crate::{Counts, text};
 use pp_model::{Answer, NoMemory, Pair};
 use pp_outside::{Failed, Sink};
 use std::alloc::Global;
@@ -205,3 +204,6 @@ impl Printer {
         }
     }
 }
+
+#[cfg(test)]
+mod tests;

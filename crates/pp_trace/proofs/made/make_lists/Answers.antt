@@ -17,8 +17,10 @@ loop-line-preserved c =
     let seed = c.args.make.seed in
     let callers = c.args.callers in
     let n = c.loop-line.line in
-    let call = c.drawn.ensures ∙ made_line-drawn seed callers n _ _ _ i.1 c.draw_next-first.ensures.value c.draw_next-state.ensures.value in
-    (c.draw_next-state.ensures.range,
-     state-more seed n _ _ _ i.1 c.draw_next-first.ensures.value c.draw_next-state.ensures.value,
-     c.in_ok-push.ensures ∙ ap (with_call c.loop-line.trace (n % callers)) call
-        ∙ made-step seed n callers c.loop-line.trace (omega (arith, c.requires.callers)) i.2)
+    let call = c.drawn.ensures
+    ∙ made_line-drawn seed callers n _ _ _ i.1 c.draw_next-first.ensures.value c.draw_next-state.ensures.value in (
+      c.draw_next-state.ensures.range,
+      state-more seed n _ _ _ i.1 c.draw_next-first.ensures.value c.draw_next-state.ensures.value,
+      c.in_ok-push.ensures ∙ ap (with_call c.loop-line.trace (n % callers)) call
+          ∙ made-step seed n callers c.loop-line.trace (omega (arith, c.requires.callers)) i.2,
+    )
