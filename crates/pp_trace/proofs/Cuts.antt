@@ -1,6 +1,6 @@
 -- The first line of a text and the first field of a line, cut off.
-use Rattle.std.proofs.Common.{◌≡◌, ℕ, suc, ◌+◌, ◌-◌, ◌<◌, ◌≤◌, min, Bool, cond, ltb, not, true, false, List, [], ◌∷◌, ◌++◌, length, map, take, drop, get_or, refl, ap, ◌∙◌, sym, ⊎_elim, arith, rules, tests}
-use Rattle.std.specs.List.{filter, slice_split, onto_first, between, before_first, after_first, position_or_len}
+use Rattle.std.proofs.Common.{◌≡◌, ℕ, suc, ◌+◌, ◌-◌, ◌<◌, ◌≤◌, min, Bool, not, true, List, [], ◌∷◌, length, map, take, drop, get_or, refl, ap, ◌∙◌, sym, ⊎_elim, arith}
+use Rattle.std.specs.List.{filter, slice_split, between, before_first, after_first, position_or_len}
 use Rattle.std.specs.Str.Lines.{strip_carriage_return}
 use Rattle.std.proofs.lemmas.Bool.{cases_lt, cases_Bool, lt-ltb, not-true}
 use Rattle.std.proofs.lemmas.List.{take_all, drop_all, take-take, drop-drop, drop_min, drop_more, drop-take, length-drop}

@@ -1,5 +1,5 @@
 -- A number read digit by digit.
-use Rattle.std.proofs.Common.{◌≡◌, ℕ, ◌+◌, ◌-◌, ◌*◌, ◌^◌, ◌<◌, ◌≤◌, ◌&&◌, Bool, true, false, cond, ltb, List, [], ◌∷◌, length, get_or, take, Some, refl, ap, ◌∙◌, sym, ⊎_elim, arith}
+use Rattle.std.proofs.Common.{◌≡◌, ℕ, ◌+◌, ◌-◌, ◌*◌, ◌^◌, ◌<◌, ◌&&◌, true, false, List, [], ◌∷◌, length, get_or, take, Some, refl, ap, ◌∙◌, sym, ⊎_elim, arith}
 use Rattle.std.specs.Char.{digit_value, is_ascii_digit}
 use Rattle.std.specs.List.{list_all}
 use Rattle.std.specs.Str.{all_ascii_digits}
@@ -9,8 +9,8 @@ use Rattle.std.proofs.lemmas.Bool.Decides.{nat_tests}
 use Rattle.std.proofs.lemmas.Int.Digits.{digits_value_more}
 use Rattle.std.proofs.lemmas.List.Folds.{list_all_more, list_all_at}
 use Rattle.pp_trace.specs.declared.scanning.Number.{Number}
-use Rattle.pp_trace.specs.declared.scanning.Number.TheVariants.{Is, Above, Not}
-use Rattle.pp_trace.specs.Lines.{is_some_text, number_of, as_number, number_with_digit}
+use Rattle.pp_trace.specs.declared.scanning.Number.TheVariants.{Not}
+use Rattle.pp_trace.specs.Lines.{number_of, as_number, number_with_digit}
 
 all_ascii_digits-list_all : (text : List ℕ) → all_ascii_digits text ≡ list_all is_ascii_digit text
 all_ascii_digits-list_all [] = refl

@@ -1,5 +1,5 @@
 -- Where the first byte stands that passes a test.
-use Rattle.std.proofs.Common.{◌≡◌, ℕ, ◌<◌, ◌≤◌, Bool, cond, ltb, not, true, false, List, length, Option, Some, None, refl, ap, ◌∙◌, sym, ⊎_elim, arith}
+use Rattle.std.proofs.Common.{◌≡◌, ℕ, ◌≤◌, Bool, cond, ltb, not, false, List, length, Option, Some, None, refl, ⊎_elim, arith}
 use Rattle.std.specs.List.{position_or_len, All}
 use Rattle.std.specs.Option.{unwrap_or}
 use Rattle.std.proofs.lemmas.Bool.{cases_lt, lt-ltb, le-ltb}

@@ -1,17 +1,16 @@
 -- What the lines of a text say, one line after the other, and the lists that grow from them.
-use Rattle.std.proofs.Common.{◌≡◌, ℕ, zero, suc, ◌+◌, ◌-◌, ◌<◌, ◌≤◌, ◌==◌, Bool, true, false, cond, eqb, List, [], ◌∷◌, ◌++◌, length, map, take, drop, get_or, set, replicate, Option, Some, None, Result, Ok, Err, refl, ap, ◌∙◌, sym, ⊎_elim, arith, rules}
-use Rattle.std.specs.List.{filter_map, between, slice_split, after_first}
+use Rattle.std.proofs.Common.{◌≡◌, ℕ, zero, suc, ◌+◌, ◌<◌, ◌≤◌, List, [], ◌∷◌, ◌++◌, length, map, drop, get_or, set, replicate, refl, ap, ◌∙◌, sym, ⊎_elim, arith}
+use Rattle.std.specs.List.{between}
 use Rattle.std.proofs.lemmas.Bool.{cases_lt, cases_eq, eq-eqb, ne_eqb}
 use Rattle.std.proofs.lemmas.List.{append_assoc, append-nil, length-set, length-replicate, get_or-set_other, get_or_past, get_or_default, get_or-replicate, length-map, get_or-map, same_lists, drop_all}
 use Rattle.std.proofs.lemmas.Grind.{get_or-set_at}
 use Rattle.pp_model.specs.declared.Call.{Call}
-use Rattle.pp_model.specs.Lists.{upto, AtEach}
-use Rattle.pp_trace.specs.declared.Why.{Why}
+use Rattle.pp_model.specs.Lists.{upto}
 use Rattle.pp_trace.specs.declared.parsing.Reading.{Reading}
 use Rattle.pp_trace.specs.declared.parsing.Reading.TheVariants.{Asks}
 use Rattle.pp_trace.specs.declared.scanning.Span.{Span}
-use Rattle.pp_trace.specs.Lines.{IsLineAt, is_line_feed, lines_of, fields_of}
-use Rattle.pp_trace.specs.Grammar.{reading, readings, call_by, calls_of, first_bad, lines, bad}
+use Rattle.pp_trace.specs.Lines.{IsLineAt, fields_of}
+use Rattle.pp_trace.specs.Grammar.{reading, readings, calls_of, first_bad, lines, bad}
 use Rattle.pp_trace.specs.TraceLists.{IsTrace, with_call}
 use Rattle.pp_trace.proofs.Limits.{asker-below, keys-fit, lists-short}
 
