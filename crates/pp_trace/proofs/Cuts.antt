@@ -1,5 +1,6 @@
 -- The first line of a text and the first field of a line, cut off.
-use Rattle.std.proofs.Common.{◌≡◌, ℕ, suc, ◌+◌, ◌-◌, ◌<◌, ◌≤◌, min, Bool, not, true, List, [], ◌∷◌, length, map, take, drop, get_or, refl, ap, ◌∙◌, sym, ⊎_elim, arith}
+use Rattle.std.proofs.Common.{◌≡◌, ℕ, suc, ◌+◌, ◌-◌, ◌<◌, ◌≤◌, min, Bool, not, true, List, [], ◌∷◌, length, map, take, drop, get_or, refl}
+use Rattle.std.proofs.Common.{ap, ◌∙◌, sym, ⊎_elim, arith}
 use Rattle.std.specs.List.{filter, slice_split, between, before_first, after_first, position_or_len}
 use Rattle.std.specs.Str.Lines.{strip_carriage_return}
 use Rattle.std.proofs.lemmas.Bool.{cases_lt, cases_Bool, lt-ltb, not-true}
@@ -8,7 +9,8 @@ use Rattle.std.proofs.lemmas.List.Edits.{length-between}
 use Rattle.std.proofs.lemmas.List.Folds.{length-prefix_len}
 use Rattle.std.proofs.lemmas.List.Sums.{passes_at_first}
 use Rattle.std.proofs.lemmas.List.Splits.{slice_split_first, slice_split_none, length-slice_split}
-use Rattle.pp_trace.specs.Lines.{IsLineAt, IsFirstField, is_line_feed, is_blank, is_field_byte, is_some_text, without_empty_last, lines_of, fields_of}
+use Rattle.pp_trace.specs.Lines.{IsLineAt, IsFirstField, is_line_feed, is_blank, is_field_byte, is_some_text, without_empty_last}
+use Rattle.pp_trace.specs.Lines.{lines_of, fields_of}
 use Rattle.pp_trace.proofs.Places.{position_or_len-le, none-passes}
 
 without_empty_last-cons : (part : List ℕ) (parts : List (List ℕ)) → 0 < length parts
@@ -39,7 +41,8 @@ first_line text some =
 
 -- the line at a place, where its line feed stands n bytes on, and r of those bytes stand before the carriage return
 pub line_at : (text : List ℕ) (from n r next : ℕ) → from < length text → n ≡ position_or_len is_line_feed (drop from text)
-    → r ≤ length (between from (from + n) text) → take r (between from (from + n) text) ≡ strip_carriage_return (between from (from + n) text)
+    → r ≤ length (between from (from + n) text)
+    → take r (between from (from + n) text) ≡ strip_carriage_return (between from (from + n) text)
     → next ≡ min (from + n + 1) (length text)
     → IsLineAt text from (record { start = from; end = from + r; next = next })
 line_at text from n r next some place within cut e =
@@ -51,16 +54,19 @@ line_at text from n r next some place within cut e =
     let r-from : from + r - from ≡ r = omega arith in
     let body : between from (from + n) text ≡ before_first is_line_feed rest = ap (λ k. take k rest) (n-from ∙ place) in
     let line : between from (from + r) text ≡ strip_carriage_return (before_first is_line_feed rest) =
-    ap (λ k. take k rest) r-from ∙ sym (take-take r n rest inner) ∙ ap (λ k. take r (take k rest)) (sym n-from) ∙ cut ∙ ap strip_carriage_return body in
+    ap (λ k. take k rest) r-from ∙ sym (take-take r n rest inner) ∙ ap (λ k. take r (take k rest)) (sym n-from) ∙ cut
+    ∙ ap strip_carriage_return body in
+    let behind : from + n + 1 ≡ from + (n + 1) = omega arith in
     let after : drop next text ≡ after_first is_line_feed rest =
-    ap (λ k. drop k text) e ∙ drop_min (from + n + 1) text ∙ ap (λ k. drop k text) (let same : from + n + 1 ≡ from + (n + 1) = omega arith in same) ∙ sym (drop-drop (n + 1) from text)
+    ap (λ k. drop k text) e ∙ drop_min (from + n + 1) text ∙ ap (λ k. drop k text) behind ∙ sym (drop-drop (n + 1) from text)
     ∙ ap (λ k. drop (k + 1) rest) place in
     let first = first_line rest (omega arith) in
     record {
       begins = refl;
       ordered = (omega arith, omega arith, omega arith);
       longer = omega arith;
-      lines = first ∙ ap (λ l. l ∷ lines_of (after_first is_line_feed rest)) (sym line) ∙ ap (λ t. between from (from + r) text ∷ lines_of t) (sym after);
+      lines = first ∙ ap (λ l. l ∷ lines_of (after_first is_line_feed rest)) (sym line)
+          ∙ ap (λ t. between from (from + r) text ∷ lines_of t) (sym after);
       rest = after;
     }
 
@@ -144,10 +150,12 @@ field_at text from end k n order within blanks some size =
     let n-from : from + k + n - (from + k) ≡ n = omega arith in
     let inner : n ≤ end - (from + k) = omega arith in
     let field : between (from + k) (from + k + n) text ≡ before_first is_blank tail =
-    ap (λ j. take j (drop (from + k) text)) n-from ∙ sym (take-take n (end - (from + k)) (drop (from + k) text) inner) ∙ ap (λ j. take j tail) size in
+    ap (λ j. take j (drop (from + k) text)) n-from ∙ sym (take-take n (end - (from + k)) (drop (from + k) text) inner)
+    ∙ ap (λ j. take j tail) size in
     let rest : between (from + k + n) end text ≡ drop (position_or_len is_blank tail) tail =
     between_later text (from + k) end n (omega arith) ∙ ap (λ j. drop j tail) size in
-    let skipped : fields_of range ≡ fields_of tail = fields_of-drop range ∙ ap (λ j. fields_of (drop j range)) (sym blanks) ∙ ap fields_of (sym later) in
+    let skipped : fields_of range ≡ fields_of tail =
+    fields_of-drop range ∙ ap (λ j. fields_of (drop j range)) (sym blanks) ∙ ap fields_of (sym later) in
     record {
       within = (omega arith, omega arith, omega arith);
       next = refl;

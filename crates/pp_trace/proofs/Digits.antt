@@ -1,5 +1,6 @@
 -- A number read digit by digit.
-use Rattle.std.proofs.Common.{◌≡◌, ℕ, ◌+◌, ◌-◌, ◌*◌, ◌^◌, ◌<◌, ◌&&◌, true, false, List, [], ◌∷◌, length, get_or, take, Some, refl, ap, ◌∙◌, sym, ⊎_elim, arith}
+use Rattle.std.proofs.Common.{◌≡◌, ℕ, ◌+◌, ◌-◌, ◌*◌, ◌^◌, ◌<◌, ◌&&◌, true, false, List, [], ◌∷◌, length, get_or, take, Some, refl, ap}
+use Rattle.std.proofs.Common.{◌∙◌, sym, ⊎_elim, arith}
 use Rattle.std.specs.Char.{digit_value, is_ascii_digit}
 use Rattle.std.specs.List.{list_all}
 use Rattle.std.specs.Str.{all_ascii_digits}
@@ -51,4 +52,5 @@ number-more text i number within digit so-far =
     let byte = get_or text i 0 in
     let n = digits_value 10 (take i text) in
     ap (λ m. number_with_digit m (byte - 48)) so-far ∙ number_with_digit-is n (byte - 48)
-    ∙ ap (λ d. as_number (Some (n * 10 + d))) (sym (digit_value-is byte digit)) ∙ ap (λ m. as_number (Some m)) (sym (digits_value_more 10 text i within))
+    ∙ ap (λ d. as_number (Some (n * 10 + d))) (sym (digit_value-is byte digit))
+    ∙ ap (λ m. as_number (Some m)) (sym (digits_value_more 10 text i within))

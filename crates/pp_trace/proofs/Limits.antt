@@ -1,5 +1,6 @@
 -- The keys and the lengths of the lists that a text says.
-use Rattle.std.proofs.Common.{◌≡◌, ℕ, zero, suc, ◌+◌, ◌<◌, ◌≤◌, ◌==◌, cond, ltb, List, [], ◌∷◌, length, map, Option, Some, None, option_and_then, ok_or, Result, Ok, Err, refl, ap, sym, subst, arith}
+use Rattle.std.proofs.Common.{◌≡◌, ℕ, zero, suc, ◌+◌, ◌<◌, ◌≤◌, ◌==◌, cond, ltb, List, [], ◌∷◌, length, map, Option, Some, None}
+use Rattle.std.proofs.Common.{option_and_then, ok_or, Result, Ok, Err, refl, ap, sym, subst, arith}
 use Rattle.std.specs.List.{filter_map, cons_option, position_or_len, after_first}
 use Rattle.std.specs.Option.{IfSome}
 use Rattle.std.specs.Result.{IfOk}
@@ -16,7 +17,8 @@ use Rattle.pp_trace.specs.declared.parsing.Reading.TheVariants.{Nothing, Asks, B
 use Rattle.pp_trace.specs.declared.parsing.Word.{Word}
 use Rattle.pp_trace.specs.declared.parsing.Word.TheVariants as word
 use Rattle.pp_trace.specs.Lines.{is_line_feed, lines_of, fields_of, number_of}
-use Rattle.pp_trace.specs.Grammar.{greatest_key, number_below, key_in, value_in, word_of, key_of_fields, insert_of, insert_of_fields, call_with_key, call_of_word, call_of, asked_by, reading_by, reading, readings, call_by, lines}
+use Rattle.pp_trace.specs.Grammar.{greatest_key, number_below, key_in, value_in, word_of, key_of_fields, insert_of, insert_of_fields}
+use Rattle.pp_trace.specs.Grammar.{call_with_key, call_of_word, call_of, asked_by, reading_by, reading, readings, call_by, lines}
 use Rattle.pp_trace.specs.TraceLists.{KeysFit}
 use Rattle.pp_trace.proofs.Cuts.{first_line}
 

@@ -163,14 +163,18 @@ pub IsMade-lists : (seed count callers : ℕ) (lists : List (List Call)) → 0 <
     → lists ≡ map (made seed count callers) (upto 0 callers) → IsMade seed count callers lists
 IsMade-lists seed count callers lists some few short is = record {
   lists_are = is;
-  keys = subst KeysFit (sym is) (each-map InRange (made seed count callers)
-      (λ c. each-map (λ call. key_of call ≤ 18446744073709551612) (made_line seed callers) (λ i. key_of-made_line seed callers i some few) _) (upto 0 callers));
+  keys = subst KeysFit (sym is) (each-map InRange (made seed count callers) in_range (upto 0 callers));
   short = subst Short (sym is) (each-map (λ calls. length calls ≤ 16777216) (made seed count callers)
       (λ c. omega (arith, length-made-le seed count callers c)) (upto 0 callers));
 }
   where
     InRange : List Call → Type 0
     InRange calls = AtEach calls (λ n call. key_of call ≤ 18446744073709551612)
+
+    in_range : (c : ℕ) → InRange (made seed count callers c)
+    in_range c =
+        each-map (λ call. key_of call ≤ 18446744073709551612) (made_line seed callers) (λ i. key_of-made_line seed callers i some few)
+        (filter (λ i. nat_eq (i % callers) c) (upto 0 count))
 
     Short : List (List Call) → Type 0
     Short lists = AtEach lists (λ c calls. length calls ≤ 16777216)

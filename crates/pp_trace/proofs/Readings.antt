@@ -1,8 +1,10 @@
 -- What the lines of a text say, one line after the other, and the lists that grow from them.
-use Rattle.std.proofs.Common.{◌≡◌, ℕ, zero, suc, ◌+◌, ◌<◌, ◌≤◌, List, [], ◌∷◌, ◌++◌, length, map, drop, get_or, set, replicate, refl, ap, ◌∙◌, sym, ⊎_elim, arith}
+use Rattle.std.proofs.Common.{◌≡◌, ℕ, zero, suc, ◌+◌, ◌<◌, ◌≤◌, List, [], ◌∷◌, ◌++◌, length, map, drop, get_or, set, replicate, refl, ap}
+use Rattle.std.proofs.Common.{◌∙◌, sym, ⊎_elim, arith}
 use Rattle.std.specs.List.{between}
 use Rattle.std.proofs.lemmas.Bool.{cases_lt, cases_eq, eq-eqb, ne_eqb}
-use Rattle.std.proofs.lemmas.List.{append_assoc, append-nil, length-set, length-replicate, get_or-set_other, get_or_past, get_or_default, get_or-replicate, length-map, get_or-map, same_lists, drop_all}
+use Rattle.std.proofs.lemmas.List.{append_assoc, append-nil, length-set, length-replicate, get_or-set_other, get_or_past, get_or_default}
+use Rattle.std.proofs.lemmas.List.{get_or-replicate, length-map, get_or-map, same_lists, drop_all}
 use Rattle.std.proofs.lemmas.Grind.{get_or-set_at}
 use Rattle.pp_model.specs.declared.Call.{Call}
 use Rattle.pp_model.specs.Lists.{upto}
@@ -88,7 +90,8 @@ read-all text callers lists read =
 
 -- a line that asks a call
 pub past-call : (text : List ℕ) (callers from n : ℕ) (line : Span) (lists : List (List Call)) (a : ℕ) (call : Call) → IsLineAt text from line
-    → Asks a call ≡ reading callers (fields_of (between line.start line.end text)) → bad text callers ≡ first_bad n (readings (drop from text) callers)
+    → Asks a call ≡ reading callers (fields_of (between line.start line.end text))
+    → bad text callers ≡ first_bad n (readings (drop from text) callers)
     → HasReadTo text callers (readings (drop from text) callers) lists
     → (bad text callers ≡ first_bad (n + 1) (readings (drop line.next text) callers))
     × HasReadTo text callers (readings (drop line.next text) callers) (with_call lists a call)

@@ -59,7 +59,9 @@ HasRoom-after {a} {b} {xs} room more h p fits = record {
 
 count_all-le : (test : Answer → Bool) (lists : List (List Answer)) → count_all test lists ≤ sum_by length lists
 count_all-le test [] = omega arith
-count_all-le test (l ∷ lists) = omega (arith, count_all-le test lists, count_by-le-length test l, sum_by-cons (count_by test) l lists, sum_by-cons length l lists)
+count_all-le test (l ∷ lists) =
+    let ones = count_by-le-length test l in
+    omega (arith, count_all-le test lists, ones, sum_by-cons (count_by test) l lists, sum_by-cons length l lists)
 
 abbrev with_counts : ℕ → ℕ → ℕ → ℕ → ℕ → ℕ → ℕ → Counts
 with_counts added held value absent took full lost =

@@ -1,5 +1,6 @@
 -- A text cut into lines, a line into fields, and the number that a field writes.
-use Rattle.std.specs.Prelude.{◌≡◌, ℕ, ◌+◌, ◌*◌, ◌^◌, ◌<◌, ◌≤◌, ◌==◌, ◌||◌, ◌&&◌, Bool, not, cond, nat_lt, List, [], ◌∷◌, length, map, Option, Some, None, drop}
+use Rattle.std.specs.Prelude.{◌≡◌, ℕ, ◌+◌, ◌*◌, ◌^◌, ◌<◌, ◌≤◌, ◌==◌, ◌||◌, ◌&&◌, Bool, not, cond, nat_lt, List, [], ◌∷◌, length, map}
+use Rattle.std.specs.Prelude.{Option, Some, None, drop}
 use Rattle.std.specs.List.{filter, slice_split, between, after_first}
 use Rattle.std.specs.Str.{all_ascii_digits}
 use Rattle.std.specs.Str.Lines.{strip_carriage_return}

@@ -155,9 +155,11 @@ impl From<AllocError> for TraceFault {
     }
 }
 
-/// Reads a trace for 1 to 64 callers, of at most 16777216 bytes.
+/// Reads a trace of at most 16777216 bytes for 1 to 64 callers: in each line the caller's number, and `get` with a
+/// key, `insert` with a key and a value, or `remove` with a key.
 ///
-/// It gives each caller's calls, or the first bad line with its cause; it takes memory for the calls alone.
+/// It gives the list of each caller's calls. `BadLine` comes exactly where a line is bad, and tells the first one;
+/// `NoMemory` comes where the memory for the calls isn't there.
 pub fn parse(alloc: Global, bytes: &[u8], callers: u32) -> Result<Trace, TraceFault>
     requires callers { (0 < callers) × (callers ≤ 64) }
     requires short { length bytes.now ≤ 16777216 }

@@ -18,7 +18,8 @@ const BUFFER: usize = 65536;
 /// and at its end; each write offers all that waits.
 ///
 /// A contract sees the bytes that wait, and whether a write has failed. What was written followed by what waits
-/// grows by exactly the text of each call.
+/// grows by exactly the text of each call. No call but `new` takes memory. A printer of which a call answered
+/// `Failed` is not to be used again.
 #[derive(Drop)]
 pub struct Printer {
     buffer: Vec<u8>,
@@ -58,7 +59,7 @@ impl Printer {
     ///
     /// # Errors
     ///
-    /// `Failed` comes with the first write that fails. The printer is then not to be used again.
+    /// `Failed` comes with the first write that fails; what was written and what waits is a front of the text.
     pub fn reply<K: Sink>(
         &mut self,
         sink: &mut K,
@@ -78,7 +79,7 @@ impl Printer {
     ///
     /// # Errors
     ///
-    /// `Failed` comes with the first write that fails. The printer is then not to be used again.
+    /// `Failed` comes with the first write that fails; what was written and what waits is a front of the text.
     pub fn contents<K: Sink>(&mut self, sink: &mut K, pairs: &[Pair]) -> Result<(), Failed>
         requires whole { self.old.failed ≡ false }
         ensures { Puts K.written K.faults sink.old sink.new self.old self.new
@@ -98,7 +99,7 @@ impl Printer {
     ///
     /// # Errors
     ///
-    /// `Failed` comes with the first write that fails. The printer is then not to be used again.
+    /// `Failed` comes with the first write that fails; what was written and what waits is a front of the text.
     pub fn summary<K: Sink>(
         &mut self,
         sink: &mut K,
@@ -118,7 +119,7 @@ impl Printer {
     ///
     /// # Errors
     ///
-    /// `Failed` comes with the first write that fails. The printer is then not to be used again.
+    /// `Failed` comes with the first write that fails; what was written and what waits is a front of the text.
     pub fn end<K: Sink>(&mut self, sink: &mut K) -> Result<(), Failed>
         requires whole { self.old.failed ≡ false }
         ensures printed { Printing (K.written sink.old) (K.written sink.new)

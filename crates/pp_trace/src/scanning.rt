@@ -3,7 +3,7 @@
 ghost use Rattle.std.specs.Prelude.{◌≡◌, ◌<◌, ◌≤◌, [], length, take, MatchOption};
 ghost use Rattle.std.specs.List.{between, position_or_len};
 ghost use Rattle.std.specs.Str.Lines.{strip_carriage_return};
-ghost use Rattle.pp_trace.specs.Lines.{IsLineAt, IsFirstField, is_line_feed, is_field_byte, fields_of, number_of, as_number, number_with_digit};
+ghost use Rattle.pp_trace.specs.Lines.{IsLineAt, IsFirstField, is_line_feed, is_blank, is_field_byte, fields_of, number_of, as_number, number_with_digit};
 
 /// A part of a text: the places of its first byte, of the byte after its last one, and of the byte at which
 /// the scan goes on.
@@ -25,8 +25,8 @@ pub enum Number {
     Not,
 }
 
-/// The line that begins at `from`, without its line feed and then without one carriage return at its end;
-/// `next` is where the next line begins. `None` comes exactly at the end of the text.
+/// The line that begins at `from`, which is at most the length: without its line feed, and then without one
+/// carriage return at its end; `next` is where the next line begins. `None` comes exactly at the end of the text.
 pub fn next_line(bytes: &[u8], from: usize) -> Option<Span>
     requires { from ≤ length bytes.now }
     ensures { MatchOption result (from ≡ length bytes.now) (IsLineAt bytes.now from) }
@@ -43,7 +43,8 @@ pub fn next_line(bytes: &[u8], from: usize) -> Option<Span>
     })
 }
 
-/// The first field between `from` and `end`; its `next` is its `end`. `None` comes exactly where there is none.
+/// The first field between `from` and `end`, which lie in this order within the bytes; its `next` is its `end`.
+/// `None` comes exactly where no field is there.
 pub fn next_field(bytes: &[u8], from: usize, end: usize) -> Option<Span>
     requires order { from ≤ end }
     requires within { end ≤ length bytes.now }
@@ -61,8 +62,9 @@ pub fn next_field(bytes: &[u8], from: usize, end: usize) -> Option<Span>
     })
 }
 
-/// The number that the bytes from `start` to `end` write in base ten; leading zeros are allowed, a sign is not.
-/// `Not` comes exactly where they are no number, `Above` exactly where the number is above 2^128 - 1.
+/// The number in base ten that the bytes from `start` to `end` write, which lie in this order within the bytes;
+/// leading zeros are allowed, a sign is not. `Not` comes exactly where they write no number, `Above` exactly where
+/// the number is above 2^128 - 1.
 pub fn read_number(bytes: &[u8], start: usize, end: usize) -> Number
     requires order { start ≤ end }
     requires within { end ≤ length bytes.now }
@@ -118,11 +120,11 @@ fn length_without_return(line: &[u8]) -> usize
 }
 
 fn length_to_blank(text: &[u8]) -> usize
-    ensures place { result ≡ position_or_len Rattle.pp_trace.specs.Lines.is_blank text.now }
+    ensures place { result ≡ position_or_len is_blank text.now }
     ensures within { result ≤ length text.now }
 {
     text.iter()
-        .position(|byte| is_blank(*byte))
+        .position(|byte| is_space_or_tab(*byte))
         .unwrap_or(text.len())
 }
 
@@ -131,12 +133,12 @@ fn leading_blanks(text: &[u8]) -> usize
     ensures within { result ≤ length text.now }
 {
     text.iter()
-        .position(|byte| !is_blank(*byte))
+        .position(|byte| !is_space_or_tab(*byte))
         .unwrap_or(text.len())
 }
 
-fn is_blank(byte: u8) -> bool
-    ensures { result ≡ Rattle.pp_trace.specs.Lines.is_blank byte }
+fn is_space_or_tab(byte: u8) -> bool
+    ensures { result ≡ is_blank byte }
 {
     byte == b' ' || byte == b'\t'
 }
