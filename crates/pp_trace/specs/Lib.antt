@@ -1,4 +1,7 @@
 pub mod Lines
 pub mod Grammar
 pub mod Text
+pub mod TraceLists
 pub mod Printing
+pub mod MadeTrace
+pub mod Counting

@@ -1,69 +1,42 @@
--- What a printer's calls do, and what a trace and its refusal say.
-use Rattle.std.specs.Prelude.{◌≡◌, ℕ, zero, suc, ◌+◌, ◌*◌, ◌/◌, ◌%◌, ◌^◌, ◌≤◌, cond, nat_lt, nat_eq, List, [], ◌∷◌, ◌++◌, map, length, Option, Some, None, Result, Ok, Err, ⊤}
+-- What a printer's calls do to its buffer and to the sink.
+use Rattle.std.specs.Prelude.{◌≡◌, ℕ, ◌+◌, ◌≤◌, Bool, List, ◌++◌, length, Option, Result, Ok, Err, IsOk, OnErr, is_err}
 use Rattle.std.specs.Io.KnownBytes.{Appends}
-use Rattle.pp_outside.specs.Outside.{Rose, GrewByPrefix}
+use Rattle.pp_outside.specs.Outside.{HasCause}
 use Rattle.pp_outside.specs.declared.Failed.{Failed}
-use Rattle.pp_model.specs.declared.Call.{Call}
-use Rattle.pp_model.specs.declared.Call.TheVariants.{Get, Insert, Remove}
-use Rattle.pp_model.specs.Calls.{key_of}
-use Rattle.pp_model.specs.Lists.{upto, AtEach}
-use Rattle.pp_trace.specs.declared.TraceFault.{TraceFault}
-use Rattle.pp_trace.specs.declared.TraceFault.TheVariants.{BadLine, NoMemory}
-use Rattle.pp_trace.specs.Grammar.{lines, bad}
 
--- a text went to the sink, or waits behind what waited
+-- a printer as its callers see it: the bytes that wait in its buffer, and whether a write of it has failed
+pub record Waiting : Type 0 where
+  pub waits : List ℕ
+  pub failed : Bool
+
+-- what was written, followed by what waits, grew by exactly this text
 pub record Prints (old new : Option (List ℕ)) (waited waits text : List ℕ) : Type 0 where
   pub front : List ℕ
   pub written : Appends old new front
   pub same : front ++ waits ≡ waited ++ text
 
--- a sink failed, and a prefix of the text stands there
-pub record Broke (old new : Option (List ℕ)) (faults_old faults_new : ℕ) (text : List ℕ) : Type 0 where
-  pub rose : Rose faults_old faults_new
-  pub written : GrewByPrefix old new text
+-- what was written, followed by what waits, grew by a prefix of this text
+pub record Broke (old new : Option (List ℕ)) (waited waits text : List ℕ) : Type 0 where
+  pub front : List ℕ
+  pub rest : List ℕ
+  pub written : Appends old new front
+  pub same : front ++ (waits ++ rest) ≡ waited ++ text
 
-abbrev pub Printing : Option (List ℕ) → Option (List ℕ) → ℕ → ℕ → List ℕ → List ℕ → List ℕ → Result (Unit {0}) Failed → Type 0
-Printing old new faults_old faults_new waited waits text (Ok u) = Prints old new waited waits text
-Printing old new faults_old faults_new waited waits text (Err e) = Broke old new faults_old faults_new (waited ++ text)
+abbrev pub Printing : Option (List ℕ) → Option (List ℕ) → List ℕ → List ℕ → List ℕ → Result (Unit {0}) Failed → Type 0
+Printing old new waited waits text (Ok u) = Prints old new waited waits text
+Printing old new waited waits text (Err e) = Broke old new waited waits text
 
--- the keys of calls are in range
-abbrev pub KeysFit : List (List Call) → Type 0
-KeysFit lists = AtEach lists (λ c calls. AtEach calls (λ n call. key_of call ≤ 18446744073709551612))
+-- the sink is as it was, and the text waits behind what waited
+pub record Waits {K : Type 0} (old new : K) (waited waits text : List ℕ) (result : Result (Unit {0}) Failed) : Type 0 where
+  pub untouched : new ≡ old
+  pub behind : waits ≡ waited ++ text
+  pub ok : IsOk result
 
--- the lists are those that a text says
-pub record IsTrace (bytes : List ℕ) (callers : ℕ) (lists : List (List Call)) : Type 0 where
-  pub good : bad bytes callers ≡ None
-  pub lists_are : lists ≡ map (lines bytes callers) (upto 0 callers)
-  pub keys : KeysFit lists
-  pub short : AtEach lists (λ c calls. length calls ≤ 16777216)
-
--- why a trace was refused
-abbrev pub TraceCause : List ℕ → ℕ → TraceFault → Type 0
-TraceCause bytes callers (BadLine line why) = bad bytes callers ≡ Some (record { line = line; why = why })
-TraceCause bytes callers NoMemory = ⊤
-
--- the caller of a made trace's line i, its call, and the state after it
-abbrev pub draw : ℕ → ℕ
-draw x = (x * 1103515245 + 12345) % 2 ^ 31
-
-abbrev pub made_call : ℕ → ℕ → ℕ → Call
-made_call t key x = cond (nat_lt t 2) (Insert key x) (cond (nat_eq t 2) (Remove key) (Get key))
-
-abbrev pub made_key : ℕ → ℕ → ℕ → ℕ
-made_key callers c x = callers * ((x / 65536) % 4096) + c
-
--- the calls of caller c among n made lines, from line i on, where the state is x
-abbrev pub made_from : ℕ → ℕ → ℕ → ℕ → ℕ → List Call
-made_from callers c zero i x = []
-made_from callers c (suc n) i x = cond (nat_eq (i % callers) c)
-    (made_call ((draw x / 65536) % 4) (made_key callers c (draw (draw x))) (draw (draw x)) ∷ made_from callers c n (i + 1) (draw (draw x)))
-    (made_from callers c n (i + 1) (draw (draw x)))
-
-abbrev pub made : ℕ → ℕ → ℕ → ℕ → List Call
-made seed count callers c = made_from callers c count 0 seed
-
--- the lists are those of a made trace
-pub record IsMade (seed count callers : ℕ) (lists : List (List Call)) : Type 0 where
-  pub lists_are : lists ≡ map (made seed count callers) (upto 0 callers)
-  pub keys : KeysFit lists
-  pub short : AtEach lists (λ c calls. length calls ≤ 16777216)
+-- A call printed this text through the buffer: it wrote only where the buffer was full, and failed only where the sink did.
+pub record Puts {K : Type 0} (written : K → Option (List ℕ)) (faults : K → ℕ) (old new : K) (was is : Waiting) (text : List ℕ)
+    (result : Result (Unit {0}) Failed) : Type 0 where
+  pub printed : Printing (written old) (written new) was.waits is.waits text result
+  pub cause : HasCause (faults old) (faults new) result
+  pub fits : length was.waits + length text ≤ 65536 → Waits old new was.waits is.waits text result
+  pub full : OnErr result (length is.waits ≡ 65536)
+  pub failed : is.failed ≡ is_err result

@@ -1,6 +1,19 @@
 //! Traces of map calls: their grammar, made traces, and the printed text of a run.
 #![tactic(auto)]
 
+mod counting;
+mod lists;
+mod made;
+mod parsing;
+mod printing;
+mod scanning;
+mod text;
+
+pub use lists::Trace;
+pub use parsing::parse;
+pub use printing::Printer;
+pub use scanning::{Number, Span, next_field, next_line, read_number};
+
 /// Why a line of a trace is bad, by the first of these that holds.
 #[derive(Clone, Copy, Debug, PartialEq, Eq)]
 pub enum Why {

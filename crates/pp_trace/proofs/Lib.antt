@@ -1,0 +1,10 @@
+pub mod Buffered
+pub mod Places
+pub mod Cuts
+pub mod Digits
+pub mod MadeLines
+pub mod Tallies
+pub mod Growth
+pub mod Readings
+pub mod Limits
+pub mod CallerTexts

@@ -1,0 +1,154 @@
+//! Traces with their calls, or with their first bad line and its cause.
+
+use super::*;
+use std::test::Fail;
+
+#[test]
+fn traces_give_their_calls(rt: HostRuntime) -> Result<(), Fail> {
+    let rows: [(&[u8], [&[Call]; 2]); 9] = [
+        (b"", [&[], &[]]),
+        (b"\n\r\n \t\n\r", [&[], &[]]),
+        (b"#1 get 1\n \t# \xff\xfe\n#", [&[], &[]]),
+        (b"1 get 5", [&[], &[Call::Get { key: 5 }]]),
+        (b"1 get 5\r", [&[], &[Call::Get { key: 5 }]]),
+        (
+            b"# try\r\n\r\n\t0  insert\t007 1 \r\n0 get 7",
+            [
+                &[Call::Insert { key: 7, value: 1 }, Call::Get { key: 7 }],
+                &[],
+            ],
+        ),
+        (
+            b"0 insert 1 10\n1 insert 2 20\n1 get 2\n0 remove 1\n",
+            [
+                &[Call::Insert { key: 1, value: 10 }, Call::Remove { key: 1 }],
+                &[Call::Insert { key: 2, value: 20 }, Call::Get { key: 2 }],
+            ],
+        ),
+        (
+            b"0 insert 18446744073709551612 18446744073709551615",
+            [
+                &[Call::Insert {
+                    key: 18446744073709551612,
+                    value: 18446744073709551615,
+                }],
+                &[],
+            ],
+        ),
+        (
+            b"0001 remove 000000000000000000000000000000000000000000000000000000000000000000000000000000000000000000000000000000004",
+            [&[], &[Call::Remove { key: 4 }]],
+        ),
+    ];
+    for (number, (text, expected)) in rows.iter().enumerate() {
+        assert!(rt; text.len() <= 1000);
+        let trace = match parse(rt.alloc(), text, 2) {
+            Ok(trace) => trace,
+            Err(fault) => {
+                assert!(rt; false, "row {number}: {fault:?}");
+                return Ok(());
+            }
+        };
+        assert_eq!(rt; trace.callers(), 2);
+        for (list, calls) in trace.into_lists().iter().zip(expected) {
+            assert_eq!(rt; list.as_slice(), *calls, "row {number}");
+        }
+    }
+    Ok(())
+}
+
+#[test]
+fn the_first_bad_line_is_told(rt: HostRuntime) -> Result<(), Fail> {
+    let rows: [(&[u8], u32, Why); 26] = [
+        (b"4 get 1", 1, Why::Caller),
+        (b"0 get 1\n4 get 1", 2, Why::Caller),
+        (b"+0 get 1", 1, Why::Caller),
+        (b"\xff get 1", 1, Why::Caller),
+        (b"9 put x", 1, Why::Caller),
+        (
+            b"340282366920938463463374607431768211456 get 1",
+            1,
+            Why::Caller,
+        ),
+        (b"0", 1, Why::Word),
+        (b"0 GET 1", 1, Why::Word),
+        (b"0 get\r1", 1, Why::Word),
+        (b"0 \r get 1", 1, Why::Word),
+        (b"0 get 1\n0 inse", 2, Why::Word),
+        (b"0 put\n0 get\n", 1, Why::Word),
+        (b"\r\n#\n\n0 gets 1\r\n0", 4, Why::Word),
+        (b"0 get", 1, Why::Fields),
+        (b"0 get 1 2", 1, Why::Fields),
+        (b"0 get x y", 1, Why::Fields),
+        (b"0 remove", 1, Why::Fields),
+        (b"0 insert 1", 1, Why::Fields),
+        (b"0 insert 1 2 3", 1, Why::Fields),
+        (b"0 get 1\r\r\n", 1, Why::Key),
+        (b"0 get -1", 1, Why::Key),
+        (b"0 insert x y", 1, Why::Key),
+        (b"0 insert 18446744073709551613 1", 1, Why::Key),
+        (
+            b"0 get 340282366920938463463374607431768211456",
+            1,
+            Why::Key,
+        ),
+        (b"0 insert 1 18446744073709551616", 1, Why::Value),
+        (b"0 insert 1 1\x00", 1, Why::Value),
+    ];
+    for (number, (text, line, why)) in rows.iter().enumerate() {
+        assert!(rt; text.len() <= 1000);
+        let fault = TraceFault::BadLine {
+            line: *line,
+            why: *why,
+        };
+        assert_eq!(rt;
+            parse(rt.alloc(), text, 4).err(),
+            Some(fault),
+            "row {number}"
+        );
+    }
+    Ok(())
+}
+
+#[test]
+fn lines_fields_and_numbers_are_read(rt: HostRuntime) -> Result<(), Fail> {
+    let text = b"a  b\r\nc";
+    assert_eq!(rt;
+        next_line(text, 0),
+        Some(Span {
+            start: 0,
+            end: 4,
+            next: 6
+        })
+    );
+    assert_eq!(rt;
+        next_line(text, 6),
+        Some(Span {
+            start: 6,
+            end: 7,
+            next: 7
+        })
+    );
+    assert_eq!(rt; next_line(text, 7), None);
+    assert_eq!(rt;
+        next_field(text, 1, 4),
+        Some(Span {
+            start: 3,
+            end: 4,
+            next: 4
+        })
+    );
+    assert_eq!(rt; next_field(text, 1, 3), None);
+    let digits = b"340282366920938463463374607431768211455x";
+    assert_eq!(rt;
+        read_number(digits, 0, 39),
+        Number::Is(340282366920938463463374607431768211455)
+    );
+    assert_eq!(rt; read_number(digits, 0, 40), Number::Not);
+    assert_eq!(rt; read_number(digits, 7, 7), Number::Not);
+    assert_eq!(rt;
+        read_number(b"340282366920938463463374607431768211456", 0, 39),
+        Number::Above
+    );
+    Ok(())
+}

@@ -1,0 +1,5 @@
+pub mod Looks
+pub mod Rules
+pub mod Walks
+pub mod Options
+pub mod Parses
