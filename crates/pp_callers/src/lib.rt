@@ -36,7 +36,8 @@ pub fn run<R: Threads + Sync, M: MapCalls + Sync, G: Gate + Sync>(
     jobs: &mut [Job<M::Pass>],
     races: u64,
     gate: &G,
-) where
+)
+where
     M::Pass: Send,
     requires races { 1 ≤ races }
     requires ready { AtEach jobs.old (λ k job. M.Belongs map.now job.pass × M.Idle job.pass
@@ -51,7 +52,7 @@ pub fn run<R: Threads + Sync, M: MapCalls + Sync, G: Gate + Sync>(
         ensures { M.Belongs map.entry.now job.exit.now.pass × M.Idle job.exit.now.pass
             × (job.exit.now.caller ≡ job.entry.now.caller) × (job.exit.now.calls.items ≡ job.entry.now.calls.items)
             × AnswersCalls M.meaning (M.sizes map.entry.now) races (M.pass_view job.entry.now.pass) job.entry.now.calls.items
-                job.exit.now.answers.items (M.pass_view job.exit.now.pass) }
+            job.exit.now.answers.items (M.pass_view job.exit.now.pass) }
     { run_one(map, job, races, gate) };
     for_each_mut(rt, jobs, 64, &make);
 }

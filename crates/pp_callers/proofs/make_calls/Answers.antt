@@ -12,14 +12,14 @@ loop-call-init g c = record {
   made = rw c.requires.may.none none;
   room = omega (arith, c.requires.may.room);
   count = ap length c.requires.may.none;
-  space = c.requires.may.fits
+  space = c.requires.may.fits;
 }
 
 pub answer_one-answer-requires-clause-may : goal.answer_one-answer-requires-clause-may
 answer_one-answer-requires-clause-may g c = record {
   key = c.requires.may.keys c.loop-call.call-index _ (slice_get-get_or c.args.calls.now c.loop-call.call-index (Get 0) c.loop-call-test.true);
   budget_left = c.requires.races;
-  room = omega (arith, c.loop-call.invariant.room)
+  room = omega (arith, c.loop-call.invariant.room);
 }
 
 pub loop-call-preserved : goal.loop-call-preserved
@@ -27,10 +27,10 @@ loop-call-preserved g c = record {
   belongs = c.answer_one-answer.ensures.belongs;
   idle = c.answer_one-answer.ensures.idle;
   made = rw (take_more c.args.calls.now c.loop-call.call-index (Get 0) c.loop-call-test.true, c.enter.ensures.items)
-    (more _ _ _ _ _ _ c.loop-call.invariant.made c.answer_one-answer.ensures.answered);
+      (more _ _ _ _ _ _ c.loop-call.invariant.made c.answer_one-answer.ensures.answered);
   room = omega (arith, c.loop-call.invariant.room, c.answer_one-answer.ensures.answered.grew.room);
   count = omega (arith, c.loop-call.invariant.count, simp length-append at (ap length c.enter.ensures.items));
-  space = omega (arith, c.loop-call.invariant.space, c.enter.ensures.space)
+  space = omega (arith, c.loop-call.invariant.space, c.enter.ensures.space);
 }
 
 pub returns-clause-answered : goal.returns-clause-answered

@@ -9,8 +9,8 @@ invariant-loop-call g l = record {
   belongs : g.M.MapCalls.Belongs l.map l.pass;
   idle : g.M.MapCalls.Idle l.pass;
   made : AnswersCalls g.M.MapCalls.meaning (g.M.MapCalls.sizes l.map) l.races (g.M.MapCalls.pass_view l.fn.pass)
-    (take l.call-index l.calls) l.answers.items (g.M.MapCalls.pass_view l.pass);
+      (take l.call-index l.calls) l.answers.items (g.M.MapCalls.pass_view l.pass);
   room : length l.calls ≤ (g.M.MapCalls.pass_view l.pass).room + l.call-index;
   count : length l.answers.items ≡ l.call-index;
-  space : length l.calls ≤ vec_capacity l.answers
+  space : length l.calls ≤ vec_capacity l.answers;
 }

@@ -9,11 +9,13 @@ for_each_mut-requires-clause-accepts g c κs within i p low is =
     (c.requires.races, ready.0, ready.1, ready.2)
 
 pub returns : goal.returns
-returns g c = record { ran = record {
-  lengths = c.for_each_mut.auto.s;
-  each = λ k x y was now.
-    let change = (c.for_each_mut.ensures k x (slice_get_within c.args.jobs.now k x was)).1 in
-    let old : change.argument.now ≡ x = change.argument_is ∙ get_or_from_slice_get c.args.jobs.now k x x was in
-    let new : change.after_call.now ≡ y = change.left ∙ get_or_from_slice_get c.for_each_mut.new.s k y x now in
-    rw (← old, ← new) change.call
-} }
+returns g c = record {
+  ran = record {
+    lengths = c.for_each_mut.auto.s;
+    each = λ k x y was now.
+        let change = (c.for_each_mut.ensures k x (slice_get_within c.args.jobs.now k x was)).1 in
+        let old : change.argument.now ≡ x = change.argument_is ∙ get_or_from_slice_get c.args.jobs.now k x x was in
+        let new : change.after_call.now ≡ y = change.left ∙ get_or_from_slice_get c.for_each_mut.new.s k y x now in
+        rw (← old, ← new) change.call;
+  };
+}
