@@ -1,0 +1,51 @@
+//! The whole replay: words and a trace in, answers and contents out, and one history of the calls between them.
+#![tactic(auto)]
+
+ghost use Rattle.std.specs.Prelude.{◌≡◌, map, string_bytes};
+ghost use Rattle.pp_replay.specs.Replay.{IsEnding, IsGood, IsAnswered, world, device};
+
+mod attempt;
+mod calls;
+mod ending;
+mod jobs;
+mod printing;
+mod running;
+mod telling;
+
+pub use ending::{Ending, Kept, Way};
+use pp_outside::{Gate, Sink, Source};
+use std::alloc::Global;
+use std::thread::Threads;
+pub use telling::tell;
+
+/// Does all that the program does: reads its words, reads or makes the trace, runs the calls of all callers on the
+/// chosen map, closes it, and prints the answers and the contents. It tells how it ended by a status, and by a line
+/// on `errs` where the status isn't 0.
+///
+/// The calls that are answered by a reply stand in one legal history of a finite map, in the sense of Herlihy and
+/// Wing, "Linearizability: a correctness condition for concurrent objects", 1990.
+pub fn replay<R: Threads + Sync, S: Source, K: Sink, E: Sink, G: Gate + Sync>(
+    rt: &R,
+    alloc: Global,
+    words: &[String],
+    source: &mut S,
+    sink: &mut K,
+    errs: &mut E,
+    gate: &G,
+) -> Ending
+    ensures ending { IsEnding (map string_bytes words.now)
+        (world (device (S.left source.old) (S.faults source.old)) (device (K.written sink.old) (K.faults sink.old)))
+        (world (device (S.left source.new) (S.faults source.new)) (device (K.written sink.new) (K.faults sink.new)))
+        (device (E.written errs.old) (E.faults errs.old)) (device (E.written errs.new) (E.faults errs.new)) result }
+    ensures complete { IsGood (map string_bytes words.now)
+        (world (device (S.left source.old) (S.faults source.old)) (device (K.written sink.old) (K.faults sink.old)))
+        (world (device (S.left source.new) (S.faults source.new)) (device (K.written sink.new) (K.faults sink.new)))
+        → IsAnswered result.status }
+{
+    let attempt = attempt::make_attempt(rt, alloc, words, source, sink, gate);
+    telling::tell(errs, attempt.way);
+    Ending::of(attempt)
+}
+
+#[cfg(test)]
+mod tests;
