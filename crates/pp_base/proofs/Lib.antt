@@ -1,0 +1,4 @@
+pub mod Telling
+pub mod Steady
+pub mod Moves
+pub mod Owning

@@ -1,0 +1,11 @@
+use Rattle.std.proofs.Common.{bit_or, arith}
+use Rattle.pp_base.proofs.Telling.{keyed}
+use Rattle.pp_base.proofs.steps.set_bits.Goals as goal
+
+pub fetch_or-requires : goal.fetch_or-requires
+fetch_or-requires g c = let N = g.N.StepNote in let pool = c.args.pool.now in let seat = c.args.seat.now in let low = c.requires.place in
+    let wide = pool.wide in (
+      c.requires.table,
+      omega arith,
+      keyed _ _ _ pool.layout pool.table.shared.key _ _ seat.me _ (λ n. bit_or n c.args.bits) (N.then seat.me) pool.keyed pool.slotless c.requires.allows,
+    )

@@ -1,0 +1,4 @@
+pub mod Passes
+pub mod Sources
+pub mod Private
+pub mod Made

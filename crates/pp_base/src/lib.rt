@@ -1,0 +1,13 @@
+//! The table of a pool under its rule: pools, passes, and the atomic steps that every structure makes.
+#![tactic(auto)]
+
+pub mod hazards;
+pub mod pool;
+pub mod private;
+pub mod purse;
+pub mod source;
+pub mod steps;
+
+pub use pool::{Pass, Pool};
+pub use purse::{InHand, Purse};
+pub use source::{Place, Side};

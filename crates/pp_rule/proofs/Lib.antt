@@ -1,0 +1,11 @@
+pub mod Put
+pub mod Histories
+pub mod Slots
+pub mod Stepping
+pub mod Frames
+pub mod Keeping
+pub mod Made
+pub mod WalkWords
+pub mod Sources
+pub mod Confirming
+pub mod Private

@@ -1,0 +1,151 @@
+-- A step of a seat that is alone with its pass: what it owes of the rule, and what follows for the views and the order.
+use Rattle.std.proofs.Common.{◌≡◌, ◌≢◌, ℕ, ◌<◌, true, false, List, [], ◌∷◌, ◌++◌, get_or, set, refl, sym, ap}
+use Rattle.std.proofs.Common.{◌∙◌, subst, ⊎_elim}
+use mathlib.Core.Option.{some}
+use lib.ListN.{get_elem?}
+use Rattle.atomic_table.specs.Table.{Me, keeps, Allows}
+use Rattle.atomic_table.proofs.Lists.{at_set, set_here}
+use Rattle.pp_link.specs.declared.layout.Sizes.{Sizes}
+use Rattle.pp_rule.specs.Lists.{IsIn}
+use Rattle.pp_rule.specs.Orders.{LoggedStep, stores}
+use Rattle.pp_rule.specs.Views.{PassState, SeatView, all_of}
+use Rattle.pp_rule.specs.States.{RecordState, PoolState}
+use Rattle.pp_rule.specs.Rule.{Base}
+use Rattle.pp_rule.specs.Ties.{TiedPass, Tied, Ties, Runs, Holds}
+use Rattle.pp_rule.specs.Steps.{entry, alone, IsAlone, MadeStep}
+use Rattle.pp_rule.proofs.Put.{put, put_here, put_else, in_nil, in_either, in_one, only, at_below}
+use Rattle.pp_rule.proofs.Histories.{begins_self, begins_more, made_else, replayed_more, run_more}
+
+module _ {E A W : Type 0} where
+  -- what the rule knows after a step of a pass, of which this is known now
+  abbrev pub after_step : PoolState E A W → PassState W → (ℕ → RecordState) → LoggedStep E A → PoolState E A W
+  after_step g known status s = record { of = put g.of known.number known; seat = g.seat; order = g.order ++ s ∷ []; status = status }
+
+  -- The views are tied after a step of the seat id, whose view was v and is alone of `known`: the view of the seat has all
+  -- steps, and the others have all steps of their passes, since none of these made the step.
+  pub ties_after : (z : Sizes) (views : List (SeatView E A W)) (g : PoolState E A W) (id : ℕ) (v : SeatView E A W) (known : PassState W)
+      (status : ℕ → RecordState) (s : LoggedStep E A) → Ties z views g → get_elem? views id ≡ some v → v ≡ alone v.order v.known
+      → known.number ≡ v.known.number → known.sizes ≡ z → s.entry.pass ≡ known.number
+      → Ties z (set views id (alone (g.order ++ s ∷ []) known)) (after_step g known status s)
+  ties_after z views g id v known status s t at lone number sizes pass =
+      let w : SeatView E A W = alone (g.order ++ s ∷ []) known in
+      let g' : PoolState E A W = after_step g known status s in
+      let here : IsIn v.known (all_of v) = subst (λ (u : SeatView E A W). IsIn v.known (all_of u)) (sym lone) (0, refl) in
+      let mine = (t.each_seat id v at).each v.known here in
+      let low : known.number < z.passes = subst (λ (p : ℕ). p < z.passes) (sym number) mine.number in
+      let seat : g.seat known.number ≡ id = ap g.seat number ∙ mine.seat in
+      let itself : TiedPass z g' id (g.order ++ s ∷ []) known = record {
+        number = low;
+        sizes = sizes;
+        is = put_here g.of known.number known;
+        seat = seat;
+        steps = refl;
+      } in record {
+        each_seat = λ j u is. ⊎_elim
+            (λ (c : (j ≡ id) × (w ≡ u)). subst (λ (u : SeatView E A W). Tied z g' j u) c.1 record {
+              begins = begins_self (g.order ++ s ∷ []);
+              each = λ q i. subst (λ (k : ℕ). TiedPass z g' k (g.order ++ s ∷ []) q) (sym c.0)
+                  (subst (λ (q : PassState W). TiedPass z g' id (g.order ++ s ∷ []) q) (in_one q known i) itself);
+              apart = λ k l q r at_k at_l _. only q known k at_k ∙ sym (only r known l at_l);
+              kept = λ o i. absurd (in_nil o i);
+            })
+            (λ (c : (j ≢ id) × (get_elem? views j ≡ some u)). others j u c.0 (t.each_seat j u c.1) seat)
+            (at_set views id j w u is);
+        last = (id, (w, set_here views id w (at_below views id v at), refl));
+        made = λ m i. ⊎_elim (t.made m) (λ (last : IsIn m (s ∷ [])). subst (λ (m : LoggedStep E A). m.entry.pass < z.passes) (in_one m s last)
+            (subst (λ (p : ℕ). p < z.passes) (sym pass) low)) (in_either m g.order (s ∷ []) i);
+      }
+    where
+      -- the view of another seat
+      others : (j : ℕ) (u : SeatView E A W) → j ≢ id → Tied z g j u → g.seat known.number ≡ id → Tied z (after_step g known status s) j u
+      others j u differ was seat = record {
+        begins = begins_more g.order u.order (s ∷ []) was.begins;
+        each = λ q i. let old = was.each q i in
+            let other : q.number ≢ known.number = λ same. differ (sym old.seat ∙ (ap g.seat same ∙ seat)) in record {
+              number = old.number;
+              sizes = old.sizes;
+              is = put_else g.of known.number known q.number other ∙ old.is;
+              seat = old.seat;
+              steps = old.steps ∙ sym (made_else q.number g.order s (λ same. other (sym same ∙ pass)));
+            };
+        apart = was.apart;
+        kept = λ o i. let old = was.kept o i in
+            let other : o.pass ≢ known.number = λ same. differ (sym old.seat ∙ (ap g.seat same ∙ seat)) in record {
+              begins = begins_more g.order o.order (s ∷ []) old.begins;
+              seat = old.seat;
+              steps = old.steps ∙ sym (made_else o.pass g.order s (λ same. other (sym same ∙ pass)));
+            };
+      }
+
+  pub runs_after : (opens words : List ℕ) (order : List (LoggedStep E A)) (known : PassState W) (kind place word left : ℕ) (changes : List E) (placed : List A)
+      → Runs opens words order → (stores kind ≡ false → word ≡ get_or words place 0) → (stores kind ≡ true → word ≡ left)
+      → Runs opens (set words place left) (order ++ entry kind place word left changes placed order known ∷ [])
+  runs_after opens words order known kind place word left changes placed r found stored =
+      let s : LoggedStep E A = entry kind place word left changes placed order known in record {
+        leaves = replayed_more opens order s ∙ ap (λ (ws : List ℕ). set ws place left) r.leaves;
+        finds = run_more opens order s r.finds record { found = λ no. found no ∙ ap (λ (ws : List ℕ). get_or ws place 0) (sym r.leaves); wrote = stored } refl;
+      }
+
+module _ {E A W : Type 0} (sides : ℕ) (opens : Sizes → List ℕ) (addition : Sizes → List ℕ → PoolState E A W → Type 0) where
+  -- What a kind of step owes: from the facts before it the facts after it, with what is now known of its pass, the states of
+  -- the numbers, the changes that took effect and the calls that were placed.
+  pub record KeepsRule (kind place word left : ℕ) (z : Sizes) (words : List ℕ) (g : PoolState E A W) (old known : PassState W)
+      (status : ℕ → RecordState) (changes : List E) (placed : List A) : Type 0 where
+    pub number : known.number ≡ old.number
+    pub sizes : known.sizes ≡ z
+    pub base : Base sides z (set words place left) (after_step g known status (entry kind place word left changes placed g.order known))
+    pub added : addition z (set words place left) (after_step g known status (entry kind place word left changes placed g.order known))
+
+  -- the same with all that the step picks, and what it tells
+  pub record Plays (kind place word left : ℕ) (z : Sizes) (words : List ℕ) (g : PoolState E A W) (v : SeatView E A W)
+      (then : Me Unit (SeatView E A W) → Type 0) : Type 0 where
+    pub known : PassState W
+    pub status : ℕ → RecordState
+    pub changes : List E
+    pub placed : List A
+    pub keeps_rule : KeepsRule kind place word left z words g v.known known status changes placed
+    -- The new order is that of all steps with this one appended.
+    pub tells : (w : SeatView E A W) → w ≡ alone (g.order ++ entry kind place word left changes placed g.order known ∷ []) known
+        → MadeStep kind place word left changes placed known v w → then (w, [])
+
+  -- A step keeps the rule where it does so in each state that meets it. The kind may depend on the word that is found.
+  pub allows_by : (z : Sizes) (slots id place : ℕ) (kind : ℕ → ℕ) (me : Me Unit (SeatView E A W)) (change noted : ℕ → ℕ)
+      (then : ℕ → Me Unit (SeatView E A W) → Type 0) → IsAlone me
+      → ((n : ℕ) → stores (kind n) ≡ false → noted n ≡ n) → ((n : ℕ) → stores (kind n) ≡ true → noted n ≡ change n)
+      → ((words : List ℕ) (g : PoolState E A W) → Base sides z words g → addition z words g → me.0.known.number < z.passes
+      → g.of me.0.known.number ≡ me.0.known → me.0.known.sizes ≡ z → get_or words place 0 < 18446744073709551616
+      → Plays (kind (get_or words place 0)) place (noted (get_or words place 0)) (change (get_or words place 0)) z words g me.0 (then (get_or words place 0)))
+      → Allows (Holds sides opens addition z) slots id me place change then
+  allows_by z slots id place kind me change noted then lone found stored each =
+      subst (λ (c : List (ℕ × Unit)). Allows (Holds sides opens addition z) slots id (me.0, c) place change then) (sym lone.0)
+      (λ s h deep at fits. let v : SeatView E A W = me.0 in
+      let g : PoolState E A W = h.pool in
+      let n : ℕ = get_or s.words place 0 in
+      let tied = h.ties.each_seat id v at in
+      let here : IsIn v.known (all_of v) = subst (λ (u : SeatView E A W). IsIn v.known (all_of u)) (sym lone.1) (0, refl) in
+      let mine = tied.each v.known here in
+      let did = each s.words g h.base h.added mine.number mine.is mine.sizes fits in
+      let e : LoggedStep E A = entry (kind n) place (noted n) (change n) did.changes did.placed g.order did.known in
+      let w : SeatView E A W = alone (g.order ++ e ∷ []) did.known in (
+        w,
+        keeps,
+        tt,
+        record {
+          pool = after_step g did.known did.status e;
+          ties = ties_after z s.views g id v did.known did.status e h.ties at lone.1 did.keeps_rule.number did.keeps_rule.sizes refl;
+          runs = runs_after (opens z) s.words g.order did.known (kind n) place (noted n) (change n) did.changes did.placed h.runs (found n) (stored n);
+          base = did.keeps_rule.base;
+          added = did.keeps_rule.added;
+        },
+        did.tells w refl record { so_far = g.order; begins = tied.begins; own_steps = sym mine.steps; is = refl },
+      ))
+
+  -- the same for a step of one kind
+  pub allows : (z : Sizes) (slots id place kind : ℕ) (me : Me Unit (SeatView E A W)) (change noted : ℕ → ℕ)
+      (then : ℕ → Me Unit (SeatView E A W) → Type 0) → IsAlone me
+      → ((n : ℕ) → stores kind ≡ false → noted n ≡ n) → ((n : ℕ) → stores kind ≡ true → noted n ≡ change n)
+      → ((words : List ℕ) (g : PoolState E A W) → Base sides z words g → addition z words g → me.0.known.number < z.passes
+      → g.of me.0.known.number ≡ me.0.known → me.0.known.sizes ≡ z → get_or words place 0 < 18446744073709551616
+      → Plays kind place (noted (get_or words place 0)) (change (get_or words place 0)) z words g me.0 (then (get_or words place 0)))
+      → Allows (Holds sides opens addition z) slots id me place change then
+  allows z slots id place kind me change noted then lone found stored each = allows_by z slots id place (λ _. kind) me change noted then lone found stored each

@@ -1,0 +1,13 @@
+pub mod Lists
+pub mod Orders
+pub mod Views
+pub mod States
+pub mod Rule
+pub mod Ties
+pub mod Steps
+pub mod Looks
+pub mod Detach
+pub mod Opening
+pub mod Closing
+pub mod Changes
+pub mod Laws

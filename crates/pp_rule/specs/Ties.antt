@@ -1,0 +1,62 @@
+-- The rule of the table: the views are tied to one order of all steps and to what is known of each pass, the words are what
+-- that order leaves, and what is true of every pool and of this shape holds.
+use Rattle.std.specs.Prelude.{◌≡◌, ℕ, ◌<◌, List}
+use Rattle.pp_link.specs.declared.layout.Sizes.{Sizes}
+use Rattle.atomic_table.specs.Table.{State}
+use lib.ListN.{get_elem?}
+use mathlib.Core.Option.{some}
+use Rattle.pp_rule.specs.Lists.{IsIn, OnceBy, BeginsWith}
+use Rattle.pp_rule.specs.Orders.{LoggedStep, entries_of, made_by, replayed, IsExecution, stores}
+use Rattle.pp_rule.specs.Views.{PassState, JoinedOrder, SeatView, all_of}
+use Rattle.pp_rule.specs.States.{PoolState}
+use Rattle.pp_rule.specs.Rule.{Base}
+
+module _ {W : Type 0} where
+  abbrev pub pass_number : PassState W → ℕ
+  pass_number q = q.number
+
+module _ {E A W : Type 0} where
+  -- What is known of a pass in a view of the seat j: the pass is the seat's, what is known is what holds, and the view's order
+  -- has all steps of the pass.
+  pub record TiedPass (z : Sizes) (g : PoolState E A W) (j : ℕ) (order : List (LoggedStep E A)) (q : PassState W) : Type 0 where
+    pub number : q.number < z.passes
+    pub sizes : q.sizes ≡ z
+    pub is : g.of q.number ≡ q
+    pub seat : g.seat q.number ≡ j
+    pub steps : made_by q.number order ≡ made_by q.number g.order
+
+  -- an order that was kept at a join has all steps of its pass
+  pub record TiedOrder (g : PoolState E A W) (j : ℕ) (o : JoinedOrder E A) : Type 0 where
+    pub begins : BeginsWith g.order o.order
+    pub seat : g.seat o.pass ≡ j
+    pub steps : made_by o.pass o.order ≡ made_by o.pass g.order
+
+  -- the view of the seat j
+  pub record Tied (z : Sizes) (g : PoolState E A W) (j : ℕ) (v : SeatView E A W) : Type 0 where
+    pub begins : BeginsWith g.order v.order
+    pub each : (q : PassState W) → IsIn q (all_of v) → TiedPass z g j v.order q
+    pub apart : OnceBy pass_number (all_of v)
+    pub kept : (o : JoinedOrder E A) → IsIn o v.kept → TiedOrder g j o
+
+  pub record Ties (z : Sizes) (views : List (SeatView E A W)) (g : PoolState E A W) : Type 0 where
+    pub each_seat : (j : ℕ) (v : SeatView E A W) → get_elem? views j ≡ some v → Tied z g j v
+    -- some seat has seen all steps
+    pub last : (j : ℕ) × ((v : SeatView E A W) × (get_elem? views j ≡ some v) × (v.order ≡ g.order))
+    -- each step was made by a pass
+    pub made : (s : LoggedStep E A) → IsIn s g.order → s.entry.pass < z.passes
+
+module _ {E A : Type 0} where
+  -- the order of all steps, from the words with which the table opened
+  pub record Runs (opens words : List ℕ) (order : List (LoggedStep E A)) : Type 0 where
+    pub leaves : replayed opens (entries_of order) ≡ words
+    pub finds : IsExecution stores opens 0 (entries_of order)
+
+module _ {E A W : Type 0} where
+  -- The whole rule, with the addition of a shape whose records have so many links.
+  pub record Holds (sides : ℕ) (opens : Sizes → List ℕ) (addition : Sizes → List ℕ → PoolState E A W → Type 0) (z : Sizes)
+      (s : State Unit (SeatView E A W)) : Type 0 where
+    pub pool : PoolState E A W
+    pub ties : Ties z s.views pool
+    pub runs : Runs (opens z) s.words pool.order
+    pub base : Base sides z s.words pool
+    pub added : addition z s.words pool

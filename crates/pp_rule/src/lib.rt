@@ -1,0 +1,8 @@
+//! The rule of a pool's table: what the threads know of it, what is true of it between any two atomic steps,
+//! and what a structure adds to that.
+#![tactic(auto)]
+
+pub mod shape;
+pub mod views;
+
+pub use shape::{PoolRule, Shape};
