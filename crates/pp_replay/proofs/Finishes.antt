@@ -43,7 +43,8 @@ finished full lost way.NoMemory before after answers text is f l printed = absur
 finished full lost way.NotBuilt before after answers text is f l printed = absurd is
 
 module _ (words : List (List ℕ)) (settings : Settings) (lists : List (List Call)) (answers : List (List Answer)) (run : RunView)
-    (read was now after : Device) (said_by : settings_of words ≡ Some settings) (calls : HasCalls settings.make settings.callers read now lists)
+    (read was now after : Device) (said_by : settings_of words ≡ Some settings)
+    (calls : HasCalls settings.make settings.callers read now lists)
     (under : IsRunUnder settings lists answers run) where
   abbrev replayed : IsReplay words (world read was) (world now after) answers (Some run)
   replayed = record {

@@ -121,7 +121,8 @@ module _ (settings : Settings) (lists : List (List Call)) (answers : List (List 
     sizes_are = λ i. record { passes = alone i; records = settings.records; heads = ap (heads_of settings) plain i }
 
     ran_under : IsRunOf (meaning_of settings.map) (sizes_of settings) settings.races (pass ∷ []) lists answers run
-    ran_under = subst (λ (m : Meaning). IsRunOf m (sizes_of settings) settings.races (pass ∷ []) lists answers run) (sym (ap meaning_of plain))
+    ran_under = subst (λ (m : Meaning). IsRunOf m (sizes_of settings) settings.races (pass ∷ []) lists answers run) (sym
+        (ap meaning_of plain))
         (subst (λ (z : MapSizes). IsRunOf plain_meaning z settings.races (pass ∷ []) lists answers run) (sym sizes_are) ran)
 
     enough_for : (c : ℕ) (calls : List Call) → c ≡ 0 → (meaning_of settings.map).need * inserts calls ≤ share_of settings c
@@ -140,7 +141,8 @@ module _ (settings : Settings) (lists : List (List Call)) (answers : List (List 
       none_full = λ enough. none_of_all is_full answers (λ c got at.
           let one = chain c got at in
           let fits = enough_for c (list_for c got at).0 (only c got at) (enough c (list_for c got at).0 (list_for c got at).1) in
-          let never = never_full plain_meaning (plain_sizes settings.records) settings.races pass one.closed (list_for c got at).0 got one.made
+          let never = never_full plain_meaning (plain_sizes settings.records) settings.races pass one.closed
+          (list_for c got at).0 got one.made
           (ran.passes 0 pass refl).fresh.free fits in
           none_counted is_full got (λ k a here yes. never k a here (full_is a yes)));
       none_lost = λ _. none_of_all is_lost answers (λ c got at.

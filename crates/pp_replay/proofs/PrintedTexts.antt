@@ -25,11 +25,13 @@ module _ {K : Type 0} {written : K → Option (List ℕ)} {faults : K → ℕ} {
   Puts-short t whole rest e same a = subst (λ (l : List ℕ). Puts written faults s0 s1 p0 p1 l (Err e)) (sym same) (Puts-longer rest e a)
 
   -- a printer that had nothing waiting and broke off printed a prefix
-  pub printed_short : (text whole rest : List ℕ) (e : Failed) → p0.waits ≡ [] → whole ≡ text ++ rest → Puts written faults s0 s1 p0 p1 text (Err e)
+  pub printed_short : (text whole rest : List ℕ) (e : Failed) → p0.waits ≡ [] → whole ≡ text ++ rest
+      → Puts written faults s0 s1 p0 p1 text (Err e)
       → IsPrinted (written s0) (faults s0) (written s1) (faults s1) whole (Err e)
   printed_short text whole rest e none same a =
       let b = Puts-short text whole rest e same a in
-      let c : Broke (written s0) (written s1) [] p1.waits whole = subst (λ (l : List ℕ). Broke (written s0) (written s1) l p1.waits whole) none b.printed in
+      let c : Broke (written s0) (written s1) [] p1.waits whole = subst (λ (l : List ℕ). Broke (written s0)
+      (written s1) l p1.waits whole) none b.printed in
       (a.cause.failed, GrewByPrefix-broke c)
 
 module _ {K : Type 0} {written : K → Option (List ℕ)} {faults : K → ℕ} {s0 s1 s2 : K} {p0 p1 : Waiting} where
@@ -43,14 +45,17 @@ module _ {K : Type 0} {written : K → Option (List ℕ)} {faults : K → ℕ} {
 
 -- ---- the lines of answers
 
-pub caller_text-append : (caller n : ℕ) (xs ys : List Answer) → caller_text caller n (xs ++ ys) ≡ caller_text caller n xs ++ caller_text caller (n + length xs) ys
+pub caller_text-append : (caller n : ℕ) (xs ys : List Answer)
+    → caller_text caller n (xs ++ ys) ≡ caller_text caller n xs ++ caller_text caller (n + length xs) ys
 caller_text-append caller n [] ys = ap (λ m. caller_text caller m ys) (omega arith)
 caller_text-append caller n (x ∷ xs) ys =
     let next : (n + 1) + length xs ≡ n + length (x ∷ xs) = omega arith in
-    ap (λ l. answer_line caller n x ++ l) (caller_text-append caller (n + 1) xs ys ∙ ap (λ m. caller_text caller (n + 1) xs ++ caller_text caller m ys) next)
+    ap (λ l. answer_line caller n x ++ l) (caller_text-append caller (n + 1) xs ys
+    ∙ ap (λ m. caller_text caller (n + 1) xs ++ caller_text caller m ys) next)
     ∙ sym (append_assoc (answer_line caller n x) (caller_text caller (n + 1) xs) (caller_text caller (n + length (x ∷ xs)) ys))
 
-pub callers_text-append : (c : ℕ) (xs ys : List (List Answer)) → callers_text c (xs ++ ys) ≡ callers_text c xs ++ callers_text (c + length xs) ys
+pub callers_text-append : (c : ℕ) (xs ys : List (List Answer))
+    → callers_text c (xs ++ ys) ≡ callers_text c xs ++ callers_text (c + length xs) ys
 callers_text-append c [] ys = ap (λ m. callers_text m ys) (omega arith)
 callers_text-append c (x ∷ xs) ys =
     let next : (c + 1) + length xs ≡ c + length (x ∷ xs) = omega arith in
@@ -67,24 +72,33 @@ caller_more caller number answers i d low is =
 
 -- all of it
 pub caller_whole : (caller n : ℕ) (answers : List Answer)
-    → caller_text caller 1 answers ≡ caller_text caller 1 (take n answers) ++ caller_text caller (1 + length (take n answers)) (drop n answers)
-caller_whole caller n answers = ap (caller_text caller 1) (sym (take-append-drop n answers)) ∙ caller_text-append caller 1 (take n answers) (drop n answers)
+    → caller_text caller 1 answers ≡ caller_text caller 1 (take n answers) ++ caller_text caller (1 + length (take n answers))
+    (drop n answers)
+caller_whole caller n answers = ap (caller_text caller 1) (sym (take-append-drop n answers))
+    ∙ caller_text-append caller 1 (take n answers) (drop n answers)
 
 abbrev pub items_of : List (Vec Answer Global) → List (List Answer)
 items_of lists = map (λ v. v.items) lists
 
 -- the callers' text with one more caller
 pub callers_more : (caller : ℕ) (lists : List (Vec Answer Global)) (i : ℕ) (d : Vec Answer Global) → i < length lists → caller ≡ i
-    → callers_text 0 (items_of (take (i + 1) lists)) ≡ callers_text 0 (items_of (take i lists)) ++ caller_text caller 1 (get_or lists i d).items
+    → callers_text 0 (items_of (take (i + 1) lists)) ≡ callers_text 0 (items_of (take i lists)) ++ caller_text caller 1
+    (get_or lists i d).items
 callers_more caller lists i d low is =
-    let at : 0 + length (items_of (take i lists)) ≡ caller = omega (arith, length-take-le i lists (omega arith), length-map (take i lists) (λ v. v.items)) in
+    let at : 0 + length (items_of (take i lists)) ≡ caller = omega (
+      arith,
+      length-take-le i lists (omega arith),
+      length-map
+          (take i lists) (λ v. v.items),
+    ) in
     ap (λ l. callers_text 0 (items_of l)) (take_more lists i d low)
     ∙ (ap (callers_text 0) (map-append (λ v. v.items) (take i lists) (get_or lists i d ∷ []))
     ∙ (callers_text-append 0 (items_of (take i lists)) ((get_or lists i d).items ∷ [])
     ∙ ap (λ l. callers_text 0 (items_of (take i lists)) ++ l) (append-nil _ ∙ ap (λ m. caller_text m 1 (get_or lists i d).items) at)))
 
 pub callers_whole : (n : ℕ) (lists : List (Vec Answer Global))
-    → callers_text 0 (items_of lists) ≡ callers_text 0 (items_of (take n lists)) ++ callers_text (0 + length (items_of (take n lists))) (items_of (drop n lists))
+    → callers_text 0 (items_of lists) ≡ callers_text 0 (items_of (take n lists)) ++ callers_text (0 + length (items_of
+    (take n lists))) (items_of (drop n lists))
 callers_whole n lists =
     ap (λ l. callers_text 0 (items_of l)) (sym (take-append-drop n lists))
     ∙ (ap (callers_text 0) (map-append (λ v. v.items) (take n lists) (drop n lists))

@@ -24,7 +24,8 @@ module _ {P : Type 0} (passes : List P) (lists : List (Vec Call Global)) (jobs :
   pass_at k x at = ap (λ l. slice_get l k) (sym passes_are) ∙ at_mapped (λ job. job.pass) jobs k x at
 
   pub list_at : (k : ℕ) (x : Job P) → slice_get jobs k ≡ Some x → slice_get (map (λ v. v.items) lists) k ≡ Some x.calls.items
-  list_at k x at = at_mapped (λ v. v.items) lists k x.calls (ap (λ l. slice_get l k) (sym lists_are) ∙ at_mapped (λ job. job.calls) jobs k x at)
+  list_at k x at = at_mapped (λ v. v.items) lists k x.calls (ap (λ l. slice_get l k) (sym lists_are)
+      ∙ at_mapped (λ job. job.calls) jobs k x at)
 
 -- a chain of calls at equal ends
 at_equal : (meaning : Meaning) (sizes : MapSizes) (races : ℕ) (p q m n : PassView) (calls more : List Call) (got given : List Answer)
@@ -64,12 +65,15 @@ module _ {P : Type 0} (view : P → PassView) (Belongs Idle : P → Type 0) (mea
         let x : Job P = get_or was c y in
         let had = before_at c y from.1 in
         let both = ran.each c x y had from.1 in
-        let pass_is : view x.pass ≡ pass = let e = sym (at_mapped view passes c x.pass (pass_at passes lists was passes_are lists_are c x had)) ∙ at in (cc) in
+        let pass_is : view x.pass ≡ pass = let e = sym (at_mapped view passes c x.pass
+        (pass_at passes lists was passes_are lists_are c x had)) ∙ at in (cc) in
         let list_is : x.calls.items ≡ calls = let e = sym (list_at passes lists was passes_are lists_are c x had) ∙ list in (cc) in
         let last_is : view y.pass ≡ last = ap view from.2 ∙ ends.2 in
         let got_is : y.answers.items ≡ got =
-        let e = sym (at_mapped (λ v. v.items) (map (λ job. job.answers) now) c y.answers (at_mapped (λ job. job.answers) now c y from.1)) ∙ answer in (cc) in
-        at_equal meaning sizes races (view x.pass) pass (view y.pass) last x.calls.items calls y.answers.items got pass_is list_is got_is last_is both.4
+        let e = sym (at_mapped (λ v. v.items) (map (λ job. job.answers) now) c y.answers (at_mapped
+        (λ job. job.answers) now c y from.1)) ∙ answer in (cc) in
+        at_equal meaning sizes races (view x.pass) pass
+        (view y.pass) last x.calls.items calls y.answers.items got pass_is list_is got_is last_is both.4
 
     -- closing what the jobs left makes one run
     pub runs : (contents : List Pair) (free : List ℕ) (run : RunView)

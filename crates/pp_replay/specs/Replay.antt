@@ -106,7 +106,8 @@ pub record IsRunUnder (settings : Settings) (lists : List (List Call)) (answers 
   pub shares : AtEach opened (λ c pass. pass.share ≡ share_of settings c)
   pub ran : IsRunOf (meaning_of settings.map) (sizes_of settings) settings.races opened lists answers run
   -- no line is full where each caller's share is at least the records that its inserts need
-  pub none_full : AtEach lists (λ c calls. (meaning_of settings.map).need * inserts calls ≤ share_of settings c) → count_all is_full answers ≡ 0
+  pub none_full : AtEach lists (λ c calls. (meaning_of settings.map).need * inserts calls ≤ share_of settings c)
+      → count_all is_full answers ≡ 0
   -- no line is lost with one caller
   pub none_lost : settings.callers ≡ 1 → count_all is_lost answers ≡ 0
 
@@ -124,7 +125,8 @@ pub record IsReplay (words : List (List ℕ)) (before after : World) (answers : 
   pub text_is : text ≡ output settings.make answers (contents_of run.log)
 
 -- everything was written, and so many lines are full and lost
-pub record IsWhole (words : List (List ℕ)) (before after : World) (answers : List (List Answer)) (kept : Option RunView) (full lost : ℕ) : Type 0 where
+pub record IsWhole (words : List (List ℕ)) (before after : World) (answers : List (List Answer)) (kept : Option RunView)
+    (full lost : ℕ) : Type 0 where
   pub replay : IsReplay words before after answers kept
   pub written : Appends before.sink.bytes after.sink.bytes replay.text
   pub full_are : count_all is_full answers ≡ full
@@ -211,7 +213,8 @@ line_of way.NotBuilt = codes "map: not built\n"
 
 -- the line was told, or a failure cut it off
 abbrev pub IsTold : Device → Device → List ℕ → Type 0
-IsTold before after line = Appends before.bytes after.bytes line ⊎ (Rose before.faults after.faults × GrewByPrefix before.bytes after.bytes line)
+IsTold before after line = Appends before.bytes after.bytes line ⊎
+    (Rose before.faults after.faults × GrewByPrefix before.bytes after.bytes line)
 
 -- The ending of a replay: it ended in one way, by its cause, with its status, and its line was told.
 pub record IsEnding (words : List (List ℕ)) (before after : World) (said_before said_after : Device) (ending : EndingView) : Type 0 where

@@ -83,9 +83,29 @@ const MADE_OUT: &[u8] =
 
 #[test]
 fn replays_end_as_worked_by_hand(rt: HostRuntime) -> Result<(), Fail> {
-    let rows: [(&str, &[u8], u8, &[u8], &[u8]); 17] = [
+    let rows: [(&str, &[u8], u8, &[u8], &[u8]); 25] = [
         ("--map plain", b"", 0, b"contents 0\n", b""),
         ("--map plain", SMALL, 0, SMALL_OUT, b""),
+        ("--map plain", b"0", 2, b"", b"trace: line 1: word\n"),
+        ("--map plain", b"0 ", 2, b"", b"trace: line 1: word\n"),
+        ("--map plain", b"0 g", 2, b"", b"trace: line 1: word\n"),
+        ("--map plain", b"0 ge", 2, b"", b"trace: line 1: word\n"),
+        ("--map plain", b"0 get", 2, b"", b"trace: line 1: fields\n"),
+        ("--map plain", b"0 get ", 2, b"", b"trace: line 1: fields\n"),
+        (
+            "--map plain",
+            b"0 get 7",
+            0,
+            b"0 1 absent\ncontents 0\n",
+            b"",
+        ),
+        (
+            "--map plain",
+            b"0 get 7\n",
+            0,
+            b"0 1 absent\ncontents 0\n",
+            b"",
+        ),
         (
             "--map=plain --callers 1",
             b"# try\r\n\r\n\t0  insert\t007 1 \r\n0 get 7",

@@ -9,7 +9,13 @@ use Rattle.pp_replay.proofs.attempt.run_plain.Goals as goal
 pub overflow_cast-calls : goal.overflow_cast-calls
 overflow_cast-calls g c =
     let lists = c.args.lists.items in
-    let low : 0 < length lists = omega (arith, length-map lists (λ v. v.items), c.requires.calls.each_caller, c.requires.within.callers_low) in
+    let low : 0 < length lists = omega (
+      arith,
+      length-map lists
+          (λ v. v.items),
+      c.requires.calls.each_caller,
+      c.requires.within.callers_low,
+    ) in
     let here = slice_get_read lists (length lists) 0 c.index.result.now refl low c.index.ensures in
     let short_one : length c.index.result.now.items ≤ 16777216 =
     c.requires.calls.short 0 c.index.result.now.items (at_mapped (λ v. v.items) lists 0 c.index.result.now here) in
@@ -18,7 +24,8 @@ overflow_cast-calls g c =
 pub finish-way-requires-clause-short : goal.finish-way-requires-clause-short
 finish-way-requires-clause-short g c =
     let run = rw (c.in-Ok.ensures.sizes, c.in-Ok-from_array.ensures.items) at c.in-Ok-run_on.ensures.ran in
-    rw c.deref.ensures.value (short c.args.settings (map (λ v. v.items) c.args.lists.items) (map (λ v. v.items) c.in-Ok-run_on.ran.answers.items)
+    rw c.deref.ensures.value (short c.args.settings (map (λ v. v.items) c.args.lists.items) (map
+    (λ v. v.items) c.in-Ok-run_on.ran.answers.items)
     _ c.in-Ok.pass c.requires.within c.requires.plain c.in-Ok.ensures.share run c.requires.calls.short)
 
 pub finish-way-requires-clause-few : goal.finish-way-requires-clause-few
