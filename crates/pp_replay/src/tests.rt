@@ -83,7 +83,7 @@ const MADE_OUT: &[u8] =
 
 #[test]
 fn replays_end_as_worked_by_hand(rt: HostRuntime) -> Result<(), Fail> {
-    let rows: [(&str, &[u8], u8, &[u8], &[u8]); 25] = [
+    let rows: [(&str, &[u8], u8, &[u8], &[u8]); 29] = [
         ("--map plain", b"", 0, b"contents 0\n", b""),
         ("--map plain", SMALL, 0, SMALL_OUT, b""),
         ("--map plain", b"0", 2, b"", b"trace: line 1: word\n"),
@@ -180,6 +180,16 @@ fn replays_end_as_worked_by_hand(rt: HostRuntime) -> Result<(), Fail> {
             b"words: refused\n",
         ),
         ("--map hash --", SMALL, 1, b"", b"words: refused\n"),
+        ("--map hash --map tree", SMALL, 1, b"", b"words: refused\n"),
+        ("--map hash --callers 0", SMALL, 1, b"", b"words: refused\n"),
+        (
+            "--map hash --callers +4",
+            SMALL,
+            1,
+            b"",
+            b"words: refused\n",
+        ),
+        ("--map hash more", SMALL, 1, b"", b"words: refused\n"),
         ("--help", SMALL, 1, b"", b"words: refused\n"),
     ];
     for (line, trace, status, sink, errs) in rows {
@@ -205,18 +215,20 @@ fn devices_fail_at_each_call_in_turn(rt: HostRuntime) -> Result<(), Fail> {
         assert_eq!(rt; got.sink.len(), 0);
         assert_eq!(rt; got.errs.as_slice(), b"read: failed\n".as_slice());
     }
-    for (write, number, left) in [(4, 1, 0), (4, 2, 4), (4, 3, 8), (7, 2, 7), (7, 9, 56)] {
-        let failing = [number];
-        let unwritten = Devices {
-            write,
-            failing_writes: &failing,
-            ..SOUND
-        };
-        let got = replayed(&rt, rt.alloc(), "--map plain", SMALL, &unwritten)?;
-        assert_eq!(rt; got.status, 4, "write {number}");
-        assert_eq!(rt; got.sink.len(), left);
-        assert!(rt; SMALL_OUT.starts_with(&got.sink));
-        assert_eq!(rt; got.errs.as_slice(), b"write: failed\n".as_slice());
+    for write in [4usize, 7] {
+        for number in 1u64..10 {
+            let failing = [number];
+            let unwritten = Devices {
+                write,
+                failing_writes: &failing,
+                ..SOUND
+            };
+            let got = replayed(&rt, rt.alloc(), "--map plain", SMALL, &unwritten)?;
+            assert_eq!(rt; got.status, 4, "write {number} of {write} bytes");
+            assert_eq!(rt; got.sink.len(), write.saturating_mul(number as usize - 1));
+            assert!(rt; SMALL_OUT.starts_with(&got.sink));
+            assert_eq!(rt; got.errs.as_slice(), b"write: failed\n".as_slice());
+        }
     }
     Ok(())
 }
