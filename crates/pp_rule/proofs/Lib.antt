@@ -9,3 +9,4 @@ pub mod WalkWords
 pub mod Sources
 pub mod Confirming
 pub mod Private
+pub mod Frontiers
