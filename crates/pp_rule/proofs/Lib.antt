@@ -10,3 +10,4 @@ pub mod Sources
 pub mod Confirming
 pub mod Private
 pub mod Frontiers
+pub mod Chained
