@@ -11,3 +11,4 @@ pub mod Confirming
 pub mod Private
 pub mod Frontiers
 pub mod Chained
+pub mod Invalidating
