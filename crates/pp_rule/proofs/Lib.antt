@@ -12,3 +12,4 @@ pub mod Private
 pub mod Frontiers
 pub mod Chained
 pub mod Invalidating
+pub mod Retiring
