@@ -1,6 +1,6 @@
 -- Steps that change the chains of one pass, and nothing else that is known of the passes.
-use Rattle.std.proofs.Common.{◌≡◌, ◌≢◌, ◌⊎◌, ℕ, zero, suc, ◌+◌, ◌*◌, ◌<◌, true, List, [], ◌∷◌, map, length, get_or, set}
-use Rattle.std.proofs.Common.{refl, sym, ap, ◌∙◌, subst, inl, inr, ⊎_elim}
+use Rattle.std.proofs.Common.{◌≡◌, ◌≢◌, ◌⊎◌, ℕ, zero, suc, ◌+◌, ◌*◌, ◌<◌, true, List, [], ◌∷◌, ◌++◌, map, length, get_or, set}
+use Rattle.std.proofs.Common.{refl, sym, ap, ◌∙◌, subst, inl, inr, ⊎_elim, arith}
 use Rattle.std.proofs.Math.Decide.{ℕ_discrete}
 use mathlib.Core.Logic.{dite}
 use mathlib.Core.Option.{some, some-injective}
@@ -20,6 +20,15 @@ pub images_set : {A B : Type 0} (f : A → B) (xs : List A) (k : ℕ) (x y : A) 
 images_set f [] k x y at same = refl
 images_set f (a ∷ xs) zero x y at same = ap (λ b. b ∷ map f xs) (same ∙ ap f (sym (some-injective a x at)))
 images_set f (a ∷ xs) (suc k) x y at same = ap (λ bs. f a ∷ bs) (images_set f xs k x y at same)
+
+module _ {A : Type 0} where
+  -- an entry of two lists put together stands in the one, or behind it in the other
+  pub at_either : (xs ys : List A) (k : ℕ) (x : A) → get_elem? (xs ++ ys) k ≡ some x
+      → ((k < length xs) × (get_elem? xs k ≡ some x)) ⊎ ((j : ℕ) × ((k ≡ length xs + j) × (get_elem? ys j ≡ some x)))
+  at_either [] ys k x e = inr (k, (omega arith, e))
+  at_either (y ∷ xs) ys zero x e = inl (omega arith, e)
+  at_either (y ∷ xs) ys (suc k) x e = ⊎_elim (λ (a : (k < length xs) × (get_elem? xs k ≡ some x)). let low = a.0 in inl (omega arith, a.1))
+      (λ (a : (j : ℕ) × ((k ≡ length xs + j) × (get_elem? ys j ≡ some x))). let here = a.1.0 in inr (a.0, (omega arith, a.1.1))) (at_either xs ys k x e)
 
 -- a number stands in the list or it doesn't
 pub in_or_out : (n : ℕ) (ns : List ℕ) → IsIn n ns ⊎ (IsIn n ns → ⊥)

@@ -13,3 +13,4 @@ pub mod Frontiers
 pub mod Chained
 pub mod Invalidating
 pub mod Retiring
+pub mod Detaching

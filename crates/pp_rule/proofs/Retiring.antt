@@ -26,21 +26,13 @@ use Rattle.pp_rule.proofs.Slots.{same_own}
 use Rattle.pp_rule.proofs.Stepping.{after_step, allows}
 use Rattle.pp_rule.proofs.Frames.{SameUsed, SameContent, content_used, frontier_content, held_after, reads_after, shelves_after, hazards_after}
 use Rattle.pp_rule.proofs.Frames.{Unscanned, scans_after}
-use Rattle.pp_rule.proofs.Chained.{in_or_out, put_all, put_all_in, put_all_out, leaves_on}
+use Rattle.pp_rule.proofs.Chained.{at_either, in_or_out, put_all, put_all_in, put_all_out, leaves_on}
 use Rattle.pp_rule.proofs.Frontiers.{guards_after}
 
 module _ {A : Type 0} where
   pub rest_get : (xs : List A) (i : ℕ) → get_elem? (rest_of xs) i ≡ get_elem? xs (suc i)
   rest_get [] i = refl
   rest_get (x ∷ xs) i = refl
-
-  -- an entry of two lists put together stands in the one, or behind it in the other
-  at_either : (xs ys : List A) (k : ℕ) (x : A) → get_elem? (xs ++ ys) k ≡ some x
-      → ((k < length xs) × (get_elem? xs k ≡ some x)) ⊎ ((j : ℕ) × ((k ≡ length xs + j) × (get_elem? ys j ≡ some x)))
-  at_either [] ys k x e = inr (k, (omega arith, e))
-  at_either (y ∷ xs) ys zero x e = inl (omega arith, e)
-  at_either (y ∷ xs) ys (suc k) x e = ⊎_elim (λ (a : (k < length xs) × (get_elem? xs k ≡ some x)). let low = a.0 in inl (omega arith, a.1))
-      (λ (a : (j : ℕ) × ((k ≡ length xs + j) × (get_elem? ys j ≡ some x))). let here = a.1.0 in inr (a.0, (omega arith, a.1.1))) (at_either xs ys k x e)
 
 -- two lists with nothing in common, each with each number once
 pub once_append : (xs ys : List ℕ) → Once xs → Once ys → ((n : ℕ) → IsIn n xs → IsIn n ys → ⊥) → Once (xs ++ ys)
