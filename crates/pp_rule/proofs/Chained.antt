@@ -10,7 +10,7 @@ use Rattle.pp_link.specs.Links.{target, invalid_bit}
 use Rattle.pp_link.specs.Places.{IsNumber}
 use Rattle.pp_link.specs.Words.{frontier_word}
 use Rattle.pp_rule.specs.Lists.{IsIn, OnceBy, Once}
-use Rattle.pp_rule.specs.Views.{WalkSlot, blank, PrivateRecord, Chain, PassState, slot}
+use Rattle.pp_rule.specs.Views.{WalkSlot, blank, PrivateRecord, Chain, PassState}
 use Rattle.pp_rule.specs.States.{RecordState, in_hand, IsUsed, Held, Leaves, SameTarget}
 use Rattle.pp_rule.specs.Rule.{number_of, Numbers, PrivateWords, Hazards, Scans}
 use Rattle.pp_rule.proofs.Put.{put, put_here, put_else, put_each, in_nil, in_first, in_later, in_cases}

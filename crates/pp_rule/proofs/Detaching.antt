@@ -11,7 +11,7 @@ use lib.ListN.{get_elem?}
 use Rattle.atomic_table.specs.Table.{Me, Allows}
 use Rattle.pp_link.specs.declared.layout.Sizes.{Sizes}
 use Rattle.pp_link.specs.Links.{target, invalid_bit}
-use Rattle.pp_link.specs.Places.{IsNumber, total, head_place, cell_place}
+use Rattle.pp_link.specs.Places.{IsNumber, head_place, cell_place}
 use Rattle.pp_link.specs.Words.{walk_word, frontier_word, shelf_word, head_word, cell_word}
 use Rattle.pp_rule.specs.Lists.{IsIn, OnceBy, Once}
 use Rattle.pp_rule.specs.Orders.{LoggedStep, stores, detach_step, missed_step}
@@ -20,7 +20,7 @@ use Rattle.pp_rule.specs.States.{RecordState, attached, in_hand, retired, owned,
 use Rattle.pp_rule.specs.States.{IsSmall, Stays, Leads, Leaves, Held, SameTarget}
 use Rattle.pp_rule.specs.Rule.{guard_of, Numbers, PrivateWords, Hazards, Links, Shelves, Chains, Scans, Base}
 use Rattle.pp_rule.specs.Ties.{Holds}
-use Rattle.pp_rule.specs.Steps.{entry, IsAlone, MadeQuietStep, detaching, IsSource}
+use Rattle.pp_rule.specs.Steps.{entry, IsAlone, detaching, IsSource}
 use Rattle.pp_rule.specs.Looks.{SameOwn}
 use Rattle.pp_rule.specs.Detach.{Detaches, Detached, Exchanged}
 use Rattle.pp_rule.specs.Laws.{KeptAlike, MayDetach, KeptDetached}

@@ -1,5 +1,5 @@
 -- Stores to a frontier word that guards no chain.
-use Rattle.std.proofs.Common.{◌≡◌, ℕ, ◌<◌, true, List, [], length, get_or, set, refl, sym, ap, ◌∙◌, subst, arith}
+use Rattle.std.proofs.Common.{◌≡◌, ℕ, ◌<◌, true, List, [], length, set, refl, sym, ap, ◌∙◌, subst, arith}
 use Rattle.std.proofs.lemmas.List.{length-set}
 use Rattle.std.proofs.Math.Bool.{false≢true}
 use Rattle.std.proofs.Math.Decide.{ℕ_discrete}
@@ -13,7 +13,7 @@ use Rattle.pp_rule.specs.Lists.{IsIn}
 use Rattle.pp_rule.specs.Orders.{LoggedStep, stores, guard_step, unguard_step}
 use Rattle.pp_rule.specs.Views.{WalkSlot, PassState, SeatView, slot, guarding}
 use Rattle.pp_rule.specs.States.{PoolState, Held}
-use Rattle.pp_rule.specs.Rule.{Hazards, Base}
+use Rattle.pp_rule.specs.Rule.{Base}
 use Rattle.pp_rule.specs.Ties.{Holds}
 use Rattle.pp_rule.specs.Steps.{entry, IsAlone, MadeQuietStep, with_frontier, IsUnused}
 use Rattle.pp_rule.specs.Laws.{KeptAlike}

@@ -1,5 +1,5 @@
 -- The or-step that sets INVALID in a link of a record in hand.
-use Rattle.std.proofs.Common.{◌≡◌, ◌≢◌, ◌⊎◌, ℕ, ◌+◌, ◌*◌, ◌/◌, ◌%◌, ◌<◌, max, Bool, true, false, cond, eqb, ◌&&◌, List, [], ◌∷◌, map, length}
+use Rattle.std.proofs.Common.{◌≡◌, ◌≢◌, ◌⊎◌, ℕ, ◌+◌, ◌*◌, ◌/◌, ◌%◌, ◌<◌, max, Bool, true, false, cond, eqb, ◌&&◌, List, [], ◌∷◌, map}
 use Rattle.std.proofs.Common.{get_or, set, bit_or, refl, sym, ap, ◌∙◌, subst, inl, inr, ⊎_elim, arith, eq-eqb, ne_eqb}
 use Rattle.std.proofs.lemmas.List.{length-set}
 use Rattle.std.proofs.Math.Bool.{false≢true}
@@ -13,15 +13,15 @@ use Rattle.atomic_table.proofs.Lists.{at_set}
 use Rattle.pp_link.specs.declared.layout.Sizes.{Sizes}
 use Rattle.pp_link.specs.Links.{target, invalid_bit}
 use Rattle.pp_link.specs.Places.{IsNumber, cell_place}
-use Rattle.pp_link.specs.Words.{frontier_word, cell_word, CellStored}
+use Rattle.pp_link.specs.Words.{cell_word, CellStored}
 use Rattle.pp_link.proofs.Stores.{cell_stored}
 use Rattle.pp_rule.specs.Lists.{IsIn, OnceBy, Once}
 use Rattle.pp_rule.specs.Orders.{LoggedStep, invalidate_step}
 use Rattle.pp_rule.specs.Views.{Chain, ChainLink, PassState, SeatView, slot}
-use Rattle.pp_rule.specs.States.{RecordState, attached, in_hand, retired, owned, IsUsed, PoolState, IsSmall, IsFrozen, Stays, SameTarget, Leads, Leaves, Held}
+use Rattle.pp_rule.specs.States.{attached, in_hand, retired, owned, PoolState, IsSmall, Stays, SameTarget, Leads, Leaves, Held}
 use Rattle.pp_rule.specs.Rule.{guard_of, PrivateWords, Hazards, Links, Chains, Scans, Base}
 use Rattle.pp_rule.specs.Ties.{Holds}
-use Rattle.pp_rule.specs.Steps.{entry, IsAlone, MadeQuietStep, without_link, invalidated, with_chain, Invalidated}
+use Rattle.pp_rule.specs.Steps.{entry, IsAlone, without_link, invalidated, with_chain, Invalidated}
 use Rattle.pp_rule.specs.Looks.{SameOwn, Invalidates}
 use Rattle.pp_rule.specs.Laws.{KeptInvalid}
 use Rattle.pp_rule.proofs.Put.{put, put_each, image_at, once_same, in_first, in_later, in_cases}
