@@ -266,9 +266,11 @@ module _ {E A W : Type 0} (sides : ℕ) (z : Sizes) (words : List ℕ) (g : Pool
         once_now (λ r other low. b.chains.once r low);
     members = λ r n e low i member. ⊎_elim (λ (old : IsIn e (g.of r).chains). let was = b.chains.members r n e low old member in
         (was.0, stays_state n (in_hand r e.guard) was.1 (λ (same : in_hand r e.guard ≡ attached). absurd cc)))
-        (λ (s : (r ≡ q.number) × (c ≡ e)). let mine : IsIn n c.records = subst (λ (e : Chain). IsIn n e.records) (sym s.1) member in
-        ((d.members n mine).0, subst (λ (r : ℕ). detached_status n ≡ in_hand r e.guard) (sym s.0)
-        (subst (λ (e : Chain). detached_status n ≡ in_hand q.number e.guard) s.1 (inside n mine)))) (each_chain r e i);
+        (λ (s : (r ≡ q.number) × (c ≡ e)). let mine : IsIn n c.records = subst (λ (e : Chain). IsIn n e.records) (sym s.1) member in (
+          (d.members n mine).0,
+          subst (λ (r : ℕ). detached_status n ≡ in_hand r e.guard) (sym s.0)
+              (subst (λ (e : Chain). detached_status n ≡ in_hand q.number e.guard) s.1 (inside n mine)),
+        )) (each_chain r e i);
     members_once = λ r e low i. ⊎_elim (λ (old : IsIn e (g.of r).chains). b.chains.members_once r e low old)
         (λ (s : (r ≡ q.number) × (c ≡ e)). subst (λ (e : Chain). Once e.records) s.1 d.members_once) (each_chain r e i);
     home = λ r j n low number state. ⊎_elim
@@ -283,9 +285,11 @@ module _ {E A W : Type 0} (sides : ℕ) (z : Sizes) (words : List ℕ) (g : Pool
     links = λ r e l low i link. ⊎_elim (λ (old : IsIn e (g.of r).chains). let was = b.chains.links r e l low old link in
         let m = b.chains.members r l.number e low old was.0 in
         (was.0, was.1, subst (SameTarget l.word) (sym (hand_link l.number l.side r e.guard m.0 was.1 m.1)) was.2))
-        (λ (s : (r ≡ q.number) × (c ≡ e)). let was = d.links l (subst (λ (e : Chain). IsIn l e.links) (sym s.1) link) in
-        (subst (λ (e : Chain). IsIn l.number e.records) s.1 was.0, was.1,
-        subst (SameTarget l.word) (sym (member_link l.number l.side was.0 was.1)) was.2)) (each_chain r e i);
+        (λ (s : (r ≡ q.number) × (c ≡ e)). let was = d.links l (subst (λ (e : Chain). IsIn l e.links) (sym s.1) link) in (
+          subst (λ (e : Chain). IsIn l.number e.records) s.1 was.0,
+          was.1,
+          subst (SameTarget l.word) (sym (member_link l.number l.side was.0 was.1)) was.2,
+        )) (each_chain r e i);
   }
     where
       early : (k : ℕ) (y : Chain) → get_elem? q.chains k ≡ some y → get_elem? (g.of q.number).chains k ≡ some y
