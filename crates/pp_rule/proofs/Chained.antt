@@ -16,7 +16,8 @@ use Rattle.pp_rule.specs.Rule.{number_of, Numbers, PrivateWords, Hazards, Scans}
 use Rattle.pp_rule.proofs.Put.{put, put_here, put_else, put_each, in_nil, in_first, in_later, in_cases}
 
 -- the images stay where an entry of the list gets another with the same image
-pub images_set : {A B : Type 0} (f : A → B) (xs : List A) (k : ℕ) (x y : A) → get_elem? xs k ≡ some x → f y ≡ f x → map f (set xs k y) ≡ map f xs
+pub images_set : {A B : Type 0} (f : A → B) (xs : List A) (k : ℕ) (x y : A) → get_elem? xs k ≡ some x → f y ≡ f x → map f
+    (set xs k y) ≡ map f xs
 images_set f [] k x y at same = refl
 images_set f (a ∷ xs) zero x y at same = ap (λ b. b ∷ map f xs) (same ∙ ap f (sym (some-injective a x at)))
 images_set f (a ∷ xs) (suc k) x y at same = ap (λ bs. f a ∷ bs) (images_set f xs k x y at same)
@@ -28,7 +29,8 @@ module _ {A : Type 0} where
   at_either [] ys k x e = inr (k, (omega arith, e))
   at_either (y ∷ xs) ys zero x e = inl (omega arith, e)
   at_either (y ∷ xs) ys (suc k) x e = ⊎_elim (λ (a : (k < length xs) × (get_elem? xs k ≡ some x)). let low = a.0 in inl (omega arith, a.1))
-      (λ (a : (j : ℕ) × ((k ≡ length xs + j) × (get_elem? ys j ≡ some x))). let here = a.1.0 in inr (a.0, (omega arith, a.1.1))) (at_either xs ys k x e)
+      (λ (a : (j : ℕ) × ((k ≡ length xs + j) × (get_elem? ys j ≡ some x))). let here = a.1.0 in inr (a.0, (omega arith, a.1.1)))
+      (at_either xs ys k x e)
 
 -- a number stands in the list or it doesn't
 pub in_or_out : (n : ℕ) (ns : List ℕ) → IsIn n ns ⊎ (IsIn n ns → ⊥)
@@ -88,9 +90,11 @@ module _ {W : Type 0} where
       → SameButChains of (put of q.number (record q { chains = cs }))
   with_chains of q cs is = record {
     owned = put_each (λ (r : ℕ) (v : PassState W). v.owned ≡ (of r).owned) of q.number q' (ap (λ v. v.owned) (sym is)) (λ r other. refl);
-    retired_are = put_each (λ (r : ℕ) (v : PassState W). v.retired ≡ (of r).retired) of q.number q' (ap (λ v. v.retired) (sym is)) (λ r other. refl);
+    retired_are = put_each (λ (r : ℕ) (v : PassState W). v.retired ≡ (of r).retired) of q.number q' (ap (λ v. v.retired) (sym is))
+        (λ r other. refl);
     walk = put_each (λ (r : ℕ) (v : PassState W). v.walk ≡ (of r).walk) of q.number q' (ap (λ v. v.walk) (sym is)) (λ r other. refl);
-    frontier = put_each (λ (r : ℕ) (v : PassState W). v.frontier ≡ (of r).frontier) of q.number q' (ap (λ v. v.frontier) (sym is)) (λ r other. refl);
+    frontier = put_each (λ (r : ℕ) (v : PassState W). v.frontier ≡ (of r).frontier) of q.number q' (ap (λ v. v.frontier) (sym is))
+        (λ r other. refl);
     scan = put_each (λ (r : ℕ) (v : PassState W). v.scan ≡ (of r).scan) of q.number q' (ap (λ v. v.scan) (sym is)) (λ r other. refl);
   }
     where
@@ -119,7 +123,8 @@ module _ {W : Type 0} where
       four = λ r low. ap (λ (l : List ℕ). length l) (s.frontier r) ∙ h.four r low;
       walks = λ r i low lt. h.walks r i low lt ∙ ap (λ (l : List WalkSlot). (get_or l i blank).named) (sym (s.walk r));
       frontiers = λ r j low lt. h.frontiers r j low lt ∙ ap (λ (l : List ℕ). get_or l j 0) (sym (s.frontier r));
-      held = λ r i low lt. subst (λ (l : List WalkSlot). (get_or l i blank).held ≡ true → Held z words status (get_or l i blank)) (sym (s.walk r))
+      held = λ r i low lt. subst (λ (l : List WalkSlot). (get_or l i blank).held ≡ true → Held z words status (get_or l i blank))
+          (sym (s.walk r))
           (h.held r i low lt);
     }
 
@@ -129,9 +134,11 @@ module _ {W : Type 0} where
       left_once = λ r low. subst (λ (l : List ℕ). Once l) (ap (λ x. x.left) (sym (s.scan r))) (c.left_once r low);
       fronts = λ r n q j m side low i read number lt is valid. c.fronts r n q j m side low (was r n i)
           (subst (λ (k : ℕ). 4 * q + j < k) (ap (λ x. x.read) (s.scan r)) read) number lt is valid;
-      walks = λ r n q i low left pass five read. subst (λ (l : List WalkSlot). (get_or l i blank).held ≡ true → (get_or l i blank).named ≢ n)
+      walks = λ r n q i low left pass five read. subst (λ (l : List WalkSlot). (get_or l i blank).held ≡ true
+          → (get_or l i blank).named ≢ n)
           (sym (s.walk q))
-          (c.walks r n q i low (was r n left) pass five (subst (λ (k : ℕ). 4 * z.passes + 5 * q + i < k) (ap (λ x. x.read) (s.scan r)) read));
+          (c.walks r n q i low (was r n left) pass five (subst (λ (k : ℕ). 4 * z.passes + 5 * q + i < k)
+          (ap (λ x. x.read) (s.scan r)) read));
     }
       where
         was : (r n : ℕ) → IsIn n (of' r).scan.left → IsIn n (of r).scan.left

@@ -30,7 +30,8 @@ use Rattle.pp_rule.proofs.Stepping.{after_step, Plays, allows_by}
 use Rattle.pp_rule.proofs.Frames.{reads_after, shelves_after}
 use Rattle.pp_rule.proofs.Keeping.{idle_keeps}
 use Rattle.pp_rule.proofs.Sources.{source_sound}
-use Rattle.pp_rule.proofs.Chained.{at_either, in_or_out, put_all, put_all_in, put_all_out, leaves_on, with_chains, numbers_on, privates_on, hazards_on, scans_on}
+use Rattle.pp_rule.proofs.Chained.{at_either, in_or_out, put_all, put_all_in, put_all_out}
+use Rattle.pp_rule.proofs.Chained.{leaves_on, with_chains, numbers_on, privates_on, hazards_on, scans_on}
 
 module _ {E A W : Type 0} (sides : ℕ) (z : Sizes) (words : List ℕ) (g : PoolState E A W) (q : PassState W) (c : Chain) (place x value : ℕ)
     (b : Base sides z words g) (pass : q.number < z.passes) (is : g.of q.number ≡ q) (d : Detaches sides z words g q c place x value) where
@@ -146,7 +147,8 @@ module _ {E A W : Type 0} (sides : ℕ) (z : Sizes) (words : List ℕ) (g : Pool
   privates_now : PrivateWords z new g.of
   privates_now = record {
     reads = λ r e low i. let his = b.numbers.owned_to r e low i in reads_after z words new e (λ f four. unplaced e.number f his.0 four
-        (λ (state : g.status e.number ≡ attached). let bad : owned r ≡ attached = sym his.1 ∙ state in absurd cc)) (b.privates.reads r e low i);
+        (λ (state : g.status e.number ≡ attached). let bad : owned r ≡ attached = sym his.1 ∙ state in absurd cc))
+        (b.privates.reads r e low i);
   }
 
   hazards_now : Hazards z new g.of detached_status
@@ -159,44 +161,51 @@ module _ {E A W : Type 0} (sides : ℕ) (z : Sizes) (words : List ℕ) (g : Pool
   }
     where
       low_field : (n f : ℕ) → IsNumber z n → f < 2 → cell_word new z n f ≡ cell_word words z n f
-      low_field n f number two = other_cell n f (λ e. let high : 2 ≤ f = (d.place_is.holder n f number (omega arith) e).0 in absurd (omega arith))
+      low_field n f number two = other_cell n f (λ e. let high : 2 ≤ f = (d.place_is.holder n f number (omega arith) e).0 in absurd
+          (omega arith))
 
       held_now : (r i : ℕ) → r < z.passes → i < 5 → (slot (g.of r) i).held ≡ true → Held z new detached_status (slot (g.of r) i)
-      held_now r i low five on = let w : WalkSlot = slot (g.of r) i in let h : Held z words g.status w = b.hazards.held r i low five on in record {
-        number = h.number;
-        used = used_on w.named h.used;
-        key = low_field w.named 0 h.number (omega arith) ∙ h.key;
-        value = low_field w.named 1 h.number (omega arith) ∙ h.value;
-        learnt = λ l k. let was = h.learnt l k in (
-          was.0,
-          subst (Stays l.1) (sym (other_cell w.named (2 + l.0) (d.place_is.unlearnt r i l low five on k))) was.1,
-          was.2,
-        );
-      }
+      held_now r i low five on = let w : WalkSlot = slot (g.of r) i in let h : Held z words g.status w = b.hazards.held r i low five on in
+          record {
+            number = h.number;
+            used = used_on w.named h.used;
+            key = low_field w.named 0 h.number (omega arith) ∙ h.key;
+            value = low_field w.named 1 h.number (omega arith) ∙ h.value;
+            learnt = λ l k. let was = h.learnt l k in (
+              was.0,
+              subst (Stays l.1) (sym (other_cell w.named (2 + l.0) (d.place_is.unlearnt r i l low five on k))) was.1,
+              was.2,
+            );
+          }
 
   links_now : Links sides z new detached_status
   links_now = let most = b.two in record {
     heads = λ h low. dite (ℕ_discrete (head_place z h) place) (λ e. subst (Leads z detached_status) (sym (this_head h e)) new_leads)
-        (λ ne. subst (Leads z detached_status) (sym (other_head h ne)) (leads_on (head_word words z h) (d.heads h low ne) (b.links.heads h low)));
+        (λ ne. subst (Leads z detached_status) (sym (other_head h ne))
+        (leads_on (head_word words z h) (d.heads h low ne) (b.links.heads h low)));
     linked = λ n side number lt state.
         let was = was_state n attached state (λ (e : attached ≡ in_hand q.number c.guard). absurd cc) in
-        dite (ℕ_discrete (cell_place z n (2 + side)) place) (λ e. subst (Leads z detached_status) (sym (this_cell n (2 + side) e)) new_leads)
+        dite (ℕ_discrete (cell_place z n (2 + side)) place) (λ e. subst (Leads z detached_status)
+        (sym (this_cell n (2 + side) e)) new_leads)
         (λ ne. subst (Leads z detached_status) (sym (other_cell n (2 + side) ne)) (leads_on (cell_word words z n (2 + side))
         (d.others n side number lt was.1 was.0 ne) (b.links.linked n side number lt was.1)));
     hand = λ n side r j number lt state. ⊎_elim
         (λ (i : IsIn n c.records). let same : in_hand r j ≡ in_hand q.number c.guard = sym state ∙ inside n i in
         let pass_is : r ≡ q.number = cc in let guard_is : j ≡ c.guard = cc in
         subst (λ (r : ℕ). Leaves z new detached_status r j (cell_word new z n (2 + side))) (sym pass_is)
-        (subst (λ (j : ℕ). Leaves z new detached_status q.number j (cell_word new z n (2 + side))) (sym guard_is) (member_leaves n side i lt)))
+        (subst (λ (j : ℕ). Leaves z new detached_status q.number j (cell_word new z n (2 + side))) (sym guard_is)
+        (member_leaves n side i lt)))
         (λ (out : IsIn n c.records → ⊥). old_leaves n side r j number lt (sym (outside n out) ∙ state)) (in_or_out n c.records);
     spent = λ n side r number lt state.
         let was = was_state n (retired r) state (λ (e : retired r ≡ in_hand q.number c.guard). absurd cc) in
         subst (λ (w : ℕ). IsSmall w × (invalid_bit w ≡ 1)) (sym (unplaced n (2 + side) number (omega arith)
-        (λ (e : g.status n ≡ attached). let bad : retired r ≡ attached = sym was.1 ∙ e in absurd cc))) (b.links.spent n side r number lt was.1);
+        (λ (e : g.status n ≡ attached). let bad : retired r ≡ attached = sym was.1 ∙ e in absurd cc)))
+        (b.links.spent n side r number lt was.1);
   }
     where
       -- a link of the chain leads to nil, into the chain, or to what its frontier word names
-      member_leaves : (n side : ℕ) → IsIn n c.records → side < sides → Leaves z new detached_status q.number c.guard (cell_word new z n (2 + side))
+      member_leaves : (n side : ℕ) → IsIn n c.records → side < sides → Leaves z new detached_status q.number c.guard
+          (cell_word new z n (2 + side))
       member_leaves n side i lt = let w : ℕ = cell_word words z n (2 + side) in
           let l : Leads z g.status w = b.links.linked n side (d.members n i).0 lt (d.members n i).1 in
           let guard_now : frontier_word new z q.number c.guard ≡ x = same_frontier q.number c.guard pass d.guard
@@ -209,7 +218,11 @@ module _ {E A W : Type 0} (sides : ℕ) (z : Sizes) (words : List ℕ) (g : Pool
                 (λ (e : target w ≡ x). ⊎_elim (λ (nil : x ≡ 0). inl (e ∙ nil))
                 (λ (t : IsNumber z x × (g.status x ≡ attached) × (IsIn x c.records → ⊥)). inr (
                   subst (IsNumber z) (sym e) t.0,
-                  inr (e ∙ sym guard_now, subst (λ (k : ℕ). IsUsed (detached_status k)) (sym e) (subst IsUsed (sym (outside x t.2 ∙ t.1)) tt)),
+                  inr (
+                    e ∙ sym guard_now,
+                    subst (λ (k : ℕ). IsUsed (detached_status k)) (sym e)
+                        (subst IsUsed (sym (outside x t.2 ∙ t.1)) tt),
+                  ),
                 )) d.frontier) to)
                 (d.inside n side i lt);
           }
@@ -228,13 +241,15 @@ module _ {E A W : Type 0} (sides : ℕ) (z : Sizes) (words : List ℕ) (g : Pool
                   t.0,
                   ⊎_elim (λ (e : g.status (target w) ≡ in_hand r j). inl (stays_state (target w) (in_hand r j) e
                       (λ (same : in_hand r j ≡ attached). absurd cc)))
-                      (λ (u : (target w ≡ frontier_word words z r j) × IsUsed (g.status (target w))). inr (u.0, used_on (target w) u.1)) t.1,
+                      (λ (u : (target w ≡ frontier_word words z r j) × IsUsed (g.status (target w))). inr
+                      (u.0, used_on (target w) u.1)) t.1,
                 ))
                 (l.to valid);
           })
 
   shelves_now : Shelves z new detached_status
-  shelves_now = shelves_after z words new detached_status (λ n j state number. subst (IsStateIn z) state (numbers_now.scope n number)) same_shelf
+  shelves_now = shelves_after z words new detached_status (λ n j state number. subst (IsStateIn z) state
+      (numbers_now.scope n number)) same_shelf
       record {
         named = λ j low. ⊎_elim inl (λ (t : IsNumber z (shelf_word words z j) × (g.status (shelf_word words z j) ≡ shelved j)).
             inr (t.0, stays_state (shelf_word words z j) (shelved j) t.1 (λ (e : shelved j ≡ attached). absurd cc)))
@@ -245,7 +260,8 @@ module _ {E A W : Type 0} (sides : ℕ) (z : Sizes) (words : List ℕ) (g : Pool
 
   -- a chain afterwards was one before, or it is the new one
   each_chain : (r : ℕ) (e : Chain) → IsIn e (put g.of q.number after r).chains → IsIn e (g.of r).chains ⊎ ((r ≡ q.number) × (c ≡ e))
-  each_chain r e = put_each (λ (r : ℕ) (v : PassState W). IsIn e v.chains → IsIn e (g.of r).chains ⊎ ((r ≡ q.number) × (c ≡ e))) g.of q.number after
+  each_chain r e = put_each (λ (r : ℕ) (v : PassState W). IsIn e v.chains → IsIn e (g.of r).chains
+      ⊎ ((r ≡ q.number) × (c ≡ e))) g.of q.number after
       (λ i. ⊎_elim (λ (early : IsIn e q.chains). inl (subst (λ (v : PassState W). IsIn e v.chains) (sym is) early))
       (λ (last : IsIn e (c ∷ [])). inr (refl, in_one e c last)) (in_either e q.chains (c ∷ []) i))
       (λ r other i. inl i) r
@@ -301,7 +317,8 @@ module _ {E A W : Type 0} (sides : ℕ) (z : Sizes) (words : List ℕ) (g : Pool
       once_now : q.number < z.passes → OnceBy guard_of (q.chains ++ c ∷ [])
       once_now low k l y w at_k at_l same = ⊎_elim
           (λ (a : (k < length q.chains) × (get_elem? q.chains k ≡ some y)). ⊎_elim
-          (λ (e : (l < length q.chains) × (get_elem? q.chains l ≡ some w)). b.chains.once q.number low k l y w (early k y a.1) (early l w e.1) same)
+          (λ (e : (l < length q.chains) × (get_elem? q.chains l ≡ some w)). b.chains.once q.number low k l y w (early k y a.1)
+          (early l w e.1) same)
           (λ (e : (j : ℕ) × ((l ≡ length q.chains + j) × (get_elem? (c ∷ []) j ≡ some w))).
           absurd (d.unused y (k, a.1) (same ∙ ap (λ v. v.guard) (sym (last e.0 w e.1.1).0))))
           (at_either q.chains (c ∷ []) l w at_l))
@@ -322,7 +339,8 @@ module _ {E A W : Type 0} (sides : ℕ) (z : Sizes) (words : List ℕ) (g : Pool
         (λ (mine : IsIn m c.records). member_leads r n m side low i mine lt (ap target (sym (member_link m side mine lt)) ∙ to))
         (λ (out : IsIn m c.records → ⊥). let was : g.status m ≡ in_hand p j = sym (outside m out) ∙ state in
         let e = hand_link m side p j number lt was in
-        b.scans.fronts r n p j m side low i read number lt was (ap invalid_bit (sym e) ∙ valid) (ap target (sym e) ∙ to)) (in_or_out m c.records);
+        b.scans.fronts r n p j m side low i read number lt was (ap invalid_bit (sym e) ∙ valid) (ap target (sym e) ∙ to))
+        (in_or_out m c.records);
     walks = b.scans.walks;
   }
     where
@@ -357,7 +375,8 @@ module _ {E A W : Type 0} (sides : ℕ) (z : Sizes) (words : List ℕ) (g : Pool
     outside = outside;
     order = record { step = s; is = refl; no_change = no_change; no_call = no_call };
     passes = λ p low. put_each (λ (p : ℕ) (v : PassState W). SameOwn (g.of p) v) g.of q.number after
-        (same_own (g.of q.number) after (ap (λ v. v.own) (sym is)) (ap (λ v. v.walk) (sym is))) (λ r other. same_own (g.of r) (g.of r) refl refl) p;
+        (same_own (g.of q.number) after (ap (λ v. v.own) (sym is)) (ap (λ v. v.walk) (sym is)))
+        (λ r other. same_own (g.of r) (g.of r) refl refl) p;
   }
 
 module _ {E A W : Type 0} (sides : ℕ) (opens : Sizes → List ℕ) (addition : Sizes → List ℕ → PoolState E A W → Type 0) where
@@ -376,20 +395,24 @@ module _ {E A W : Type 0} (sides : ℕ) (opens : Sizes → List ℕ) (addition :
   detaches_chain alike chain may_detach shows kept z slots id place guard first new me lone source may = let q : PassState W = me.0.known in
       let c : Chain = chain q guard first new in
       let then : ℕ → Me Unit (SeatView E A W) → Type 0 = λ n m'. (m'.1 ≡ []) × Exchanged c first new n place me.0 m'.0 in
-      allows_by sides opens addition z slots id place (λ n. cond (eqb n first) detach_step missed_step) me (λ n. either (eqb n first) new n) (λ n. n)
+      allows_by sides opens addition z slots id place (λ n. cond (eqb n first) detach_step missed_step) me
+      (λ n. either (eqb n first) new n) (λ n. n)
       then lone (λ m no. refl) (λ m bad. absurd (false≢true (sym (stores_none (eqb m first)) ∙ bad)))
       (λ words g b add pass is sizes fits.
       let n : ℕ = get_or words place 0 in
       let small : IsSmall n = (source_sound sides z words g q place b pass is source).small in
       dite (ℕ_discrete n first)
-      (λ e. subst (λ (hit : Bool). Plays sides opens addition (cond hit detach_step missed_step) place n (either hit new n) z words g me.0 (then n))
+      (λ e. subst (λ (hit : Bool). Plays sides opens addition (cond hit detach_step missed_step) place n (either hit new n) z words g me.0
+      (then n))
       (sym (eq-eqb n first e))
       (let d : Detaches sides z words g q c place (target new) new = shows z words g q place guard first new b add pass is may e in
       let q' : PassState W = detaching c q in
       let status : ℕ → RecordState = detached_status sides z words g q c place (target new) new b pass is d in
       let s : LoggedStep E A = entry detach_step place n new [] [] g.order q' in
-      let b' : Base sides z (set words place new) (after_step g q' status s) = base_detached sides z words g q c place (target new) new b pass is d s in
-      let looks : Detached z g (after_step g q' status s) q c = looks_detached sides z words g q c place (target new) new b pass is d s refl refl in
+      let b' : Base sides z (set words place new) (after_step g q' status s) = base_detached sides z words g q c place
+      (target new) new b pass is d s in
+      let looks : Detached z g (after_step g q' status s) q c = looks_detached sides z words g q c place
+      (target new) new b pass is d s refl refl in
       record {
         known = q';
         status = status;
@@ -403,7 +426,8 @@ module _ {E A W : Type 0} (sides : ℕ) (opens : Sizes → List ℕ) (addition :
         };
         tells = λ v is_now made. (refl, record { small = small; same = λ _. made; other = λ ne. absurd (ne e) });
       }))
-      (λ ne. subst (λ (hit : Bool). Plays sides opens addition (cond hit detach_step missed_step) place n (either hit new n) z words g me.0 (then n))
+      (λ ne. subst (λ (hit : Bool). Plays sides opens addition (cond hit detach_step missed_step) place n
+      (either hit new n) z words g me.0 (then n))
       (sym (ne_eqb n first ne)) record {
         known = q;
         status = g.status;

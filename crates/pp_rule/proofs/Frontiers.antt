@@ -28,7 +28,8 @@ module _ {W : Type 0} (z : Sizes) (words new : List ℕ) (of : ℕ → PassState
       → length q.frontier ≡ 4 → j < 4 → ((k : ℕ) → k < 4 → frontier_word words z p k ≡ guarding (of p) k) → p < z.passes
       → (k : ℕ) → k < 4 → frontier_word new z p k ≡ guarding q' k
   guards_after q q' j n stored is is_set four lt was pass k low = dite (ℕ_discrete k j)
-      (λ e. subst (λ (k : ℕ). frontier_word new z p k ≡ guarding q' k) (sym e) (stored.here ∙ sym (guarding_here q q' j n is_set (omega arith))))
+      (λ e. subst (λ (k : ℕ). frontier_word new z p k ≡ guarding q' k) (sym e)
+      (stored.here ∙ sym (guarding_here q q' j n is_set (omega arith))))
       (λ ne. stored.frontiers p k pass low (λ same. ne same.1)
       ∙ (was k low ∙ (ap (λ (v : PassState W). guarding v k) is ∙ sym (guarding_else q q' j n is_set k ne))))
 
@@ -64,7 +65,8 @@ module _ {E A W : Type 0} (sides : ℕ) (z : Sizes) where
 
 module _ {E A W : Type 0} (sides : ℕ) (opens : Sizes → List ℕ) (addition : Sizes → List ℕ → PoolState E A W → Type 0) where
   -- a store to a frontier word that guards no chain, as a step of a kind that stores
-  stores_frontier : KeptAlike sides addition → (kind : ℕ) → stores kind ≡ true → (z : Sizes) (slots id place j n : ℕ) (me : Me Unit (SeatView E A W))
+  stores_frontier : KeptAlike sides addition → (kind : ℕ) → stores kind ≡ true → (z : Sizes) (slots id place j n : ℕ)
+      (me : Me Unit (SeatView E A W))
       → IsAlone me → j < 4 → IsUnused j me.0.known → place ≡ frontier_place z me.0.known.number j
       → Allows (Holds sides opens addition z) slots id me place (λ _. n)
       (λ _ m'. (m'.1 ≡ []) × MadeQuietStep kind place n n (with_frontier j n me.0.known) me.0 m'.0)
@@ -75,10 +77,12 @@ module _ {E A W : Type 0} (sides : ℕ) (opens : Sizes → List ℕ) (addition :
       (λ words g b add pass is sizes fits.
       let e : LoggedStep E A = entry kind place n n [] [] g.order q' in
       let new : List ℕ = set words place n in
-      let b' : Base sides z new (after_step g q' g.status e) = subst (λ (k : ℕ). Base sides z (set words k n) (after_step g q' g.status e)) (sym at)
+      let b' : Base sides z new (after_step g q' g.status e) = subst (λ (k : ℕ). Base sides z (set words k n)
+      (after_step g q' g.status e)) (sym at)
       (base_frontier_stored sides z words g q j n e b pass is lt unused) in
       let content : SameContent z words new = subst (λ (k : ℕ). SameContent z words (set words k n)) (sym at)
-      (frontier_content z words (frontier_place z q.number j) n q.number j (frontier_stored z words n b.wide q.number j pass lt)) in record {
+      (frontier_content z words (frontier_place z q.number j) n q.number j (frontier_stored z words n b.wide q.number j pass lt)) in
+      record {
         known = q';
         status = g.status;
         changes = [];
@@ -87,7 +91,8 @@ module _ {E A W : Type 0} (sides : ℕ) (opens : Sizes → List ℕ) (addition :
           number = refl;
           sizes = sizes;
           base = b';
-          added = alike z words new g (after_step g q' g.status e) b b' (looks_after sides z words new g q' e (content_used z g.status words new content) refl refl
+          added = alike z words new g (after_step g q' g.status e) b b'
+              (looks_after sides z words new g q' e (content_used z g.status words new content) refl refl
               (same_own (g.of q.number) q' (ap (λ v. v.own) (sym is)) (ap (λ v. v.walk) (sym is)))) add;
         };
         tells = λ v is_now made. (refl, made);

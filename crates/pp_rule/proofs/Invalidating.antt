@@ -65,9 +65,11 @@ stays_through u v w a s = ⊎_elim (λ (e : v ≡ u). subst (λ (x : ℕ). Stays
     (λ (t : (invalid_bit v ≡ 0) × (w ≡ v + 4)). let p = e.0 in let q = e.1 in let r = t.0 in absurd (omega arith)) s.stays) a
 
 -- the other links of the list stay in it
-pub in_without_link : (n side : ℕ) (ls : List (ℕ × ℕ)) (m t : ℕ) → ((m ≡ n) × (t ≡ side) → ⊥) → IsIn (m, t) ls → IsIn (m, t) (without_link n side ls)
+pub in_without_link : (n side : ℕ) (ls : List (ℕ × ℕ)) (m t : ℕ) → ((m ≡ n) × (t ≡ side) → ⊥) → IsIn (m, t) ls → IsIn (m, t)
+    (without_link n side ls)
 in_without_link n side [] m t ne i = i
-in_without_link n side (l ∷ ls) m t ne i = ⊎_elim (λ (e : (m, t) ≡ l). subst (λ (b : Bool). IsIn (m, t) (cond b (without_link n side ls) (l ∷ without_link n side ls)))
+in_without_link n side (l ∷ ls) m t ne i = ⊎_elim (λ (e : (m, t) ≡ l). subst
+    (λ (b : Bool). IsIn (m, t) (cond b (without_link n side ls) (l ∷ without_link n side ls)))
     (sym (subst (λ (l : ℕ × ℕ). eqb l.0 n && eqb l.1 side ≡ false) e unlike))
     (subst (λ (l : ℕ × ℕ). IsIn (m, t) (l ∷ without_link n side ls)) e (in_first (m, t) (without_link n side ls))))
     (λ (later : IsIn (m, t) ls). there (eqb l.0 n && eqb l.1 side) (in_without_link n side ls m t ne later)) (in_cases (m, t) l ls i)
@@ -85,7 +87,8 @@ abbrev pub core_of : Chain → Chain
 core_of c = record c { valid = [] }
 
 module _ {E A W : Type 0} (sides : ℕ) (z : Sizes) (words : List ℕ) (g : PoolState E A W) (q : PassState W) (k n side : ℕ) (c : Chain)
-    (b : Base sides z words g) (pass : q.number < z.passes) (is : g.of q.number ≡ q) (at : get_elem? q.chains k ≡ some c) (member : IsIn n c.records)
+    (b : Base sides z words g) (pass : q.number < z.passes) (is : g.of q.number ≡ q) (at : get_elem? q.chains k ≡ some c)
+    (member : IsIn n c.records)
     (below : side < sides) where
   abbrev new : List ℕ
   new = set words (cell_place z n (2 + side)) (bit_or (cell_word words z n (2 + side)) 4)
@@ -106,7 +109,8 @@ module _ {E A W : Type 0} (sides : ℕ) (z : Sizes) (words : List ℕ) (g : Pool
   link_small = (b.links.hand n side q.number c.guard link_number below link_state).small
 
   pub link_stored : CellStored z words new n (2 + side) (bit_or (cell_word words z n (2 + side)) 4)
-  link_stored = let most = b.two in cell_stored z words (bit_or (cell_word words z n (2 + side)) 4) b.wide n (2 + side) link_number (omega arith)
+  link_stored = let most = b.two in cell_stored z words (bit_or (cell_word words z n (2 + side)) 4) b.wide n (2 + side) link_number
+      (omega arith)
 
   set_now : SetsInvalid (cell_word words z n (2 + side)) (cell_word new z n (2 + side))
   set_now = subst (SetsInvalid (cell_word words z n (2 + side))) (sym link_stored.here) (sets_invalid (cell_word words z n (2 + side)))
@@ -138,7 +142,8 @@ module _ {E A W : Type 0} (sides : ℕ) (z : Sizes) (words : List ℕ) (g : Pool
         learnt = λ l j. let was = h.learnt l j in (was.0, link_now w l was.0 was.1 h.number, was.2);
       }
     where
-      link_now : (w : ℕ) (l : ℕ × ℕ) → l.0 < 2 → Stays l.1 (cell_word words z w (2 + l.0)) → IsNumber z w → Stays l.1 (cell_word new z w (2 + l.0))
+      link_now : (w : ℕ) (l : ℕ × ℕ) → l.0 < 2 → Stays l.1 (cell_word words z w (2 + l.0)) → IsNumber z w → Stays l.1
+          (cell_word new z w (2 + l.0))
       link_now w l two stays number = dite (ℕ_discrete w n) (λ e. dite (ℕ_discrete l.0 side)
           (λ f. subst (λ (m : ℕ). Stays l.1 (cell_word words z m (2 + l.0)) → Stays l.1 (cell_word new z m (2 + l.0))) (sym e)
           (subst (λ (t : ℕ). Stays l.1 (cell_word words z n (2 + t)) → Stays l.1 (cell_word new z n (2 + t))) (sym f)
@@ -160,7 +165,8 @@ module _ {E A W : Type 0} (sides : ℕ) (z : Sizes) (words : List ℕ) (g : Pool
   links_now = let most = b.two in record {
     heads = λ h low. subst (Leads z g.status) (sym (link_stored.heads h low)) (b.links.heads h low);
     linked = λ m t number lt state. subst (Leads z g.status) (sym (elsewhere m (2 + t) number (omega arith)
-        (λ e. let bad : attached ≡ in_hand q.number c.guard = sym state ∙ (ap g.status e ∙ link_state) in absurd cc))) (b.links.linked m t number lt state);
+        (λ e. let bad : attached ≡ in_hand q.number c.guard = sym state ∙ (ap g.status e ∙ link_state) in absurd cc)))
+        (b.links.linked m t number lt state);
     hand = λ m t r j number lt state. let was = b.links.hand m t r j number lt state in
         let scope = hand_scope sides z words g b m r j state number in ⊎_elim
         (λ (s : SetsInvalid (cell_word words z m (2 + t)) (cell_word new z m (2 + t))). record {
@@ -172,7 +178,8 @@ module _ {E A W : Type 0} (sides : ℕ) (z : Sizes) (words : List ℕ) (g : Pool
         (leaves_on z words new g.status (cell_word words z m (2 + t)) r j (link_stored.frontiers r j scope.0 scope.1) was))
         (each_link m t number lt);
     spent = λ m t r number lt state. subst (λ (w : ℕ). IsSmall w × (invalid_bit w ≡ 1)) (sym (elsewhere m (2 + t) number (omega arith)
-        (λ e. let bad : retired r ≡ in_hand q.number c.guard = sym state ∙ (ap g.status e ∙ link_state) in absurd cc))) (b.links.spent m t r number lt state);
+        (λ e. let bad : retired r ≡ in_hand q.number c.guard = sym state ∙ (ap g.status e ∙ link_state) in absurd cc)))
+        (b.links.spent m t r number lt state);
   }
 
   scans_now : Scans sides z new g.of g.status
@@ -191,20 +198,23 @@ module _ {E A W : Type 0} (sides : ℕ) (z : Sizes) (words : List ℕ) (g : Pool
   privates_now : PrivateWords z new g.of
   privates_now = record {
     reads = λ r d low i. let his = b.numbers.owned_to r d low i in reads_after z words new d (λ f four. elsewhere d.number f his.0 four
-        (λ e. let bad : owned r ≡ in_hand q.number c.guard = sym his.1 ∙ (ap g.status e ∙ link_state) in absurd cc)) (b.privates.reads r d low i);
+        (λ e. let bad : owned r ≡ in_hand q.number c.guard = sym his.1 ∙ (ap g.status e ∙ link_state) in absurd cc))
+        (b.privates.reads r d low i);
   }
 
   same_cores : map core_of after.chains ≡ map core_of (g.of q.number).chains
   same_cores = images_set core_of q.chains k c (invalidated n side c) at refl ∙ ap (λ (v : PassState W). map core_of v.chains) (sym is)
 
   -- each chain afterwards was one before, and each goes on
-  old_chain : (r : ℕ) (d : Chain) → IsIn d (put g.of q.number after r).chains → (o : Chain) × (IsIn o (g.of r).chains × (core_of o ≡ core_of d))
+  old_chain : (r : ℕ) (d : Chain) → IsIn d (put g.of q.number after r).chains → (o : Chain)
+      × (IsIn o (g.of r).chains × (core_of o ≡ core_of d))
   old_chain r d = put_each (λ (r : ℕ) (v : PassState W). IsIn d v.chains → (o : Chain) × (IsIn o (g.of r).chains × (core_of o ≡ core_of d)))
       g.of q.number after
       (λ i. let was = image_at core_of (g.of q.number).chains after.chains same_cores i.0 d i.1 in (was.0, ((i.0, was.1.0), was.1.1)))
       (λ r other i. (d, (i, refl))) r
 
-  new_chain : (r : ℕ) (o : Chain) → IsIn o (g.of r).chains → (d : Chain) × (IsIn d (put g.of q.number after r).chains × (core_of d ≡ core_of o))
+  new_chain : (r : ℕ) (o : Chain) → IsIn o (g.of r).chains → (d : Chain)
+      × (IsIn d (put g.of q.number after r).chains × (core_of d ≡ core_of o))
   new_chain r o = put_each (λ (r : ℕ) (v : PassState W). IsIn o (g.of r).chains → (d : Chain) × (IsIn d v.chains × (core_of d ≡ core_of o)))
       g.of q.number after
       (λ i. let now = image_at core_of after.chains (g.of q.number).chains (sym same_cores) i.0 o i.1 in (now.0, ((i.0, now.1.0), now.1.1)))
@@ -226,11 +236,13 @@ module _ {E A W : Type 0} (sides : ℕ) (z : Sizes) (words : List ℕ) (g : Pool
       (each_link m t (old_member r m d low i of_it).0 lt)
     where
       by : ((m ≡ n) × (t ≡ side) → ⊥) → (invalid_bit (cell_word words z m (2 + t)) ≡ 1) ⊎ IsIn (m, t) d.valid
-      by ne = put_each (λ (r : ℕ) (v : PassState W). r < z.passes → IsIn d v.chains → (invalid_bit (cell_word words z m (2 + t)) ≡ 1) ⊎ IsIn (m, t) d.valid)
+      by ne = put_each (λ (r : ℕ) (v : PassState W). r < z.passes → IsIn d v.chains → (invalid_bit (cell_word words z m (2 + t)) ≡ 1)
+          ⊎ IsIn (m, t) d.valid)
           g.of q.number after
           (λ low j. ⊎_elim
           (λ (e : (j.0 ≡ k) × (invalidated n side c ≡ d)). ⊎_elim inl
-          (λ (left : IsIn (m, t) c.valid). inr (subst (λ (x : Chain). IsIn (m, t) x.valid) e.1 (in_without_link n side c.valid m t ne left)))
+          (λ (left : IsIn (m, t) c.valid). inr (subst (λ (x : Chain). IsIn (m, t) x.valid) e.1
+          (in_without_link n side c.valid m t ne left)))
           (b.chains.valid q.number m t c pass chain_in (subst (λ (l : List ℕ). IsIn m l) (ap (λ x. x.records) (sym e.1)) of_it) lt))
           (λ (e : (j.0 ≢ k) × (get_elem? q.chains j.0 ≡ some d)).
           b.chains.valid q.number m t d pass (j.0, ap (λ (v : PassState W). get_elem? v.chains j.0) is ∙ e.1) of_it lt)
@@ -259,7 +271,8 @@ module _ {E A W : Type 0} (sides : ℕ) (z : Sizes) (words : List ℕ) (g : Pool
               (λ (s : SetsInvalid (cell_word words z l.number (2 + l.side)) (cell_word new z l.number (2 + l.side))).
               same_through l.word (cell_word words z l.number (2 + l.side)) (cell_word new z l.number (2 + l.side)) was.2 s.same)
               (λ (e : ((l.number ≡ n) × (l.side ≡ side) → ⊥)
-              × (cell_word new z l.number (2 + l.side) ≡ cell_word words z l.number (2 + l.side))). subst (SameTarget l.word) (sym e.1) was.2)
+              × (cell_word new z l.number (2 + l.side) ≡ cell_word words z l.number (2 + l.side))). subst (SameTarget l.word)
+              (sym e.1) was.2)
               (each_link l.number l.side (b.chains.members r l.number o.0 low o.1.0 was.0).0 was.1),
         );
   }
@@ -280,7 +293,8 @@ module _ {E A W : Type 0} (sides : ℕ) (z : Sizes) (words : List ℕ) (g : Pool
   }
 
   -- what a shape sees of it
-  pub looks_invalidated : (s : LoggedStep E A) → s.entry.changes ≡ [] → s.placed ≡ [] → Invalidates z words new g (after_step g after g.status s) n side
+  pub looks_invalidated : (s : LoggedStep E A) → s.entry.changes ≡ [] → s.placed ≡ [] → Invalidates z words new g
+      (after_step g after g.status s) n side
   looks_invalidated s no_change no_call = record {
     number = link_number;
     hand = (q.number, (c.guard, link_state));
@@ -291,7 +305,8 @@ module _ {E A W : Type 0} (sides : ℕ) (z : Sizes) (words : List ℕ) (g : Pool
     status = λ m. refl;
     order = record { step = s; is = refl; no_change = no_change; no_call = no_call };
     passes = λ p low. put_each (λ (p : ℕ) (v : PassState W). SameOwn (g.of p) v) g.of q.number after
-        (same_own (g.of q.number) after (ap (λ v. v.own) (sym is)) (ap (λ v. v.walk) (sym is))) (λ r other. same_own (g.of r) (g.of r) refl refl) p;
+        (same_own (g.of q.number) after (ap (λ v. v.own) (sym is)) (ap (λ v. v.walk) (sym is)))
+        (λ r other. same_own (g.of r) (g.of r) refl refl) p;
   }
 
 module _ {E A W : Type 0} (sides : ℕ) (opens : Sizes → List ℕ) (addition : Sizes → List ℕ → PoolState E A W → Type 0) where
@@ -312,7 +327,8 @@ module _ {E A W : Type 0} (sides : ℕ) (opens : Sizes → List ℕ) (addition :
       subst (λ (x : ℕ). Base sides z (set words x (bit_or (get_or words x 0) 4)) (after_step g q' g.status e)) (sym at_place)
       (base_invalidated sides z words g q k n side c b pass is at member below e) in
       let looks : Invalidates z words (set words place (bit_or w 4)) g (after_step g q' g.status e) n side =
-      subst (λ (x : ℕ). Invalidates z words (set words x (bit_or (get_or words x 0) 4)) g (after_step g q' g.status e) n side) (sym at_place)
+      subst (λ (x : ℕ). Invalidates z words (set words x (bit_or (get_or words x 0) 4)) g (after_step g q' g.status e) n side)
+      (sym at_place)
       (looks_invalidated sides z words g q k n side c b pass is at member below e refl refl) in record {
         known = q';
         status = g.status;
@@ -328,7 +344,8 @@ module _ {E A W : Type 0} (sides : ℕ) (opens : Sizes → List ℕ) (addition :
           refl,
           record {
             made = made;
-            small = subst (λ (x : ℕ). IsSmall (get_or words x 0)) (sym at_place) (link_small sides z words g q k n side c b pass is at member below);
+            small = subst (λ (x : ℕ). IsSmall (get_or words x 0)) (sym at_place)
+                (link_small sides z words g q k n side c b pass is at member below);
           },
         );
       })

@@ -24,7 +24,8 @@ use Rattle.pp_rule.specs.Laws.{KeptAlike}
 use Rattle.pp_rule.proofs.Put.{put, put_each, in_nil, in_left, in_right, in_either}
 use Rattle.pp_rule.proofs.Slots.{same_own}
 use Rattle.pp_rule.proofs.Stepping.{after_step, allows}
-use Rattle.pp_rule.proofs.Frames.{SameUsed, SameContent, content_used, frontier_content, held_after, reads_after, shelves_after, hazards_after}
+use Rattle.pp_rule.proofs.Frames.{SameUsed, SameContent, content_used, frontier_content}
+use Rattle.pp_rule.proofs.Frames.{held_after, reads_after, shelves_after, hazards_after}
 use Rattle.pp_rule.proofs.Frames.{Unscanned, scans_after}
 use Rattle.pp_rule.proofs.Chained.{at_either, in_or_out, put_all, put_all_in, put_all_out, leaves_on}
 use Rattle.pp_rule.proofs.Frontiers.{guards_after}
@@ -48,7 +49,8 @@ once_append xs ys once_x once_y apart k l x y at_k at_l e = ⊎_elim
     (at_either xs ys l y at_l)) (at_either xs ys k x at_k)
 
 module _ {E A W : Type 0} (sides : ℕ) (z : Sizes) (words : List ℕ) (g : PoolState E A W) (q : PassState W) (c : Chain)
-    (b : Base sides z words g) (pass : q.number < z.passes) (is : g.of q.number ≡ q) (at : get_elem? q.chains 0 ≡ some c) (spent : c.valid ≡ []) where
+    (b : Base sides z words g) (pass : q.number < z.passes) (is : g.of q.number ≡ q) (at : get_elem? q.chains 0 ≡ some c)
+    (spent : c.valid ≡ []) where
   abbrev new : List ℕ
   new = set words (frontier_place z q.number c.guard) 0
 
@@ -101,8 +103,11 @@ module _ {E A W : Type 0} (sides : ℕ) (z : Sizes) (words : List ℕ) (g : Pool
   old_chain r d = put_each (λ (r : ℕ) (v : PassState W). IsIn d v.chains
       → IsIn d (g.of r).chains × ((r ≡ q.number) × (d.guard ≡ c.guard) → ⊥)) g.of q.number after
       (λ i. let e : get_elem? (g.of q.number).chains (suc i.0) ≡ some d =
-      ap (λ (v : PassState W). get_elem? v.chains (suc i.0)) is ∙ (sym (rest_get q.chains i.0) ∙ i.1) in
-      ((suc i.0, e), λ same. let bad : suc i.0 ≡ 0 = b.chains.once q.number pass (suc i.0) 0 d c e (ap (λ (v : PassState W). get_elem? v.chains 0) is ∙ at) same.1 in absurd (omega arith)))
+      ap (λ (v : PassState W). get_elem? v.chains (suc i.0)) is ∙ (sym (rest_get q.chains i.0) ∙ i.1) in (
+        (suc i.0, e),
+        λ same. let bad : suc i.0 ≡ 0 = b.chains.once q.number pass (suc i.0) 0 d c e
+            (ap (λ (v : PassState W). get_elem? v.chains 0) is ∙ at) same.1 in absurd (omega arith),
+      ))
       (λ r other i. (i, λ same. other same.0)) r
 
   -- a record of another chain is none of c
@@ -137,7 +142,8 @@ module _ {E A W : Type 0} (sides : ℕ) (z : Sizes) (words : List ℕ) (g : Pool
         let d = b.numbers.owned_from r n low number was.1 in
         (d.0, (subst (λ (l : List PrivateRecord). IsIn d.0 l) (sym (owned_same r)) d.1.0, d.1.1));
     owned_once = λ r low. subst (OnceBy (λ (d : PrivateRecord). d.number)) (sym (owned_same r)) (b.numbers.owned_once r low);
-    retired_to = λ r n low. put_each (λ (r : ℕ) (v : PassState W). r < z.passes → IsIn n v.retired → IsNumber z n × (retired_status n ≡ retired r))
+    retired_to = λ r n low. put_each (λ (r : ℕ) (v : PassState W). r < z.passes → IsIn n v.retired → IsNumber z n
+        × (retired_status n ≡ retired r))
         g.of q.number after (λ low i. ⊎_elim
         (λ (early : IsIn n q.retired). old_retired q.number n low (subst (λ (v : PassState W). IsIn n v.retired) (sym is) early))
         (λ (late : IsIn n c.records). ((member_was n late).0, inside n late)) (in_either n q.retired c.records i))
@@ -152,12 +158,14 @@ module _ {E A W : Type 0} (sides : ℕ) (z : Sizes) (words : List ℕ) (g : Pool
         (λ low. once_append q.retired c.records (subst (λ (v : PassState W). Once v.retired) is (b.numbers.retired_once q.number low))
         (b.chains.members_once q.number c pass chain_in)
         (λ n early late. let e : retired q.number ≡ in_hand q.number c.guard =
-        sym (b.numbers.retired_to q.number n low (subst (λ (v : PassState W). IsIn n v.retired) (sym is) early)).1 ∙ (member_was n late).1 in absurd cc))
+        sym (b.numbers.retired_to q.number n low (subst (λ (v : PassState W). IsIn n v.retired) (sym is) early)).1
+        ∙ (member_was n late).1 in absurd cc))
         (λ r other low. b.numbers.retired_once r low);
   }
     where
       owned_same : (r : ℕ) → (put g.of q.number after r).owned ≡ (g.of r).owned
-      owned_same = put_each (λ (r : ℕ) (v : PassState W). v.owned ≡ (g.of r).owned) g.of q.number after (ap (λ v. v.owned) (sym is)) (λ r other. refl)
+      owned_same = put_each (λ (r : ℕ) (v : PassState W). v.owned ≡ (g.of r).owned) g.of q.number after (ap (λ v. v.owned) (sym is))
+          (λ r other. refl)
 
       old_retired : (r n : ℕ) → r < z.passes → IsIn n (g.of r).retired → IsNumber z n × (retired_status n ≡ retired r)
       old_retired r n low i = let was = b.numbers.retired_to r n low i in
@@ -170,7 +178,8 @@ module _ {E A W : Type 0} (sides : ℕ) (z : Sizes) (words : List ℕ) (g : Pool
   }
     where
       old : (r : ℕ) (d : PrivateRecord) → r < z.passes → IsIn d (g.of r).owned → Reads z new d
-      old r d low i = reads_after z words new d (λ f four. stored.cells d.number f (b.numbers.owned_to r d low i).0 four) (b.privates.reads r d low i)
+      old r d low i = reads_after z words new d (λ f four. stored.cells d.number f (b.numbers.owned_to r d low i).0 four)
+          (b.privates.reads r d low i)
 
   hazards_now : Hazards z new (put g.of q.number after) retired_status
   hazards_now = let used : SameUsed z retired_status words new = content_used z retired_status words new content in
@@ -191,7 +200,8 @@ module _ {E A W : Type 0} (sides : ℕ) (z : Sizes) (words : List ℕ) (g : Pool
       (guards_after z words new g.of q.number q after c.guard 0 stored is refl four (b.chains.guard q.number c pass chain_in)
       (λ k low. b.hazards.frontiers q.number k pass low) pass)
       (λ i five on. held_after z words new retired_status (slot q i) used
-      (subst (λ (v : PassState W). (slot v i).held ≡ true → Held z words retired_status (slot v i)) is (before.held q.number i pass five) on))
+      (subst (λ (v : PassState W). (slot v i).held ≡ true → Held z words retired_status (slot v i)) is
+      (before.held q.number i pass five) on))
     where
       held_on : (w : WalkSlot) → Held z words g.status w → Held z words retired_status w
       held_on w h = record { number = h.number; used = used_on w.named h.used; key = h.key; value = h.value; learnt = h.learnt }
@@ -238,25 +248,29 @@ module _ {E A W : Type 0} (sides : ℕ) (z : Sizes) (words : List ℕ) (g : Pool
                   t.0,
                   ⊎_elim (λ (e : g.status (target w) ≡ in_hand r j). inl (stays_state (target w) (in_hand r j) e
                       (λ (same : in_hand r j ≡ in_hand q.number c.guard). other (cc, cc))))
-                      (λ (u : (target w ≡ frontier_word words z r j) × IsUsed (g.status (target w))). inr (u.0, used_on (target w) u.1)) t.1,
+                      (λ (u : (target w ≡ frontier_word words z r j) × IsUsed (g.status (target w))). inr
+                      (u.0, used_on (target w) u.1)) t.1,
                 ))
                 (l.to valid);
           })
 
   shelves_now : Shelves z new retired_status
-  shelves_now = shelves_after z words new retired_status (λ n j state number. subst (IsStateIn z) state (numbers_now.scope n number)) stored.shelves
+  shelves_now = shelves_after z words new retired_status (λ n j state number. subst (IsStateIn z) state
+      (numbers_now.scope n number)) stored.shelves
       record {
         named = λ j low. ⊎_elim inl (λ (t : IsNumber z (shelf_word words z j) × (g.status (shelf_word words z j) ≡ shelved j)).
             inr (t.0, stays_state (shelf_word words z j) (shelved j) t.1 (λ (e : shelved j ≡ in_hand q.number c.guard). absurd cc)))
             (b.shelves.named j low);
-        home = λ n j number state. b.shelves.home n j number (was_state n (shelved j) state (λ (e : shelved j ≡ retired q.number). absurd cc)).1;
+        home = λ n j number state. b.shelves.home n j number (was_state n (shelved j) state
+            (λ (e : shelved j ≡ retired q.number). absurd cc)).1;
       }
 
   chains_now : Chains sides z new (put g.of q.number after) retired_status
   chains_now = record {
     guard = λ r d low i. b.chains.guard r d low (old_chain r d i).0;
     once = put_each (λ (r : ℕ) (v : PassState W). r < z.passes → OnceBy guard_of v.chains) g.of q.number after
-        (λ low k l x y at_k at_l e. let same : suc k ≡ suc l = b.chains.once q.number low (suc k) (suc l) x y (later k x at_k) (later l y at_l) e in
+        (λ low k l x y at_k at_l e. let same : suc k ≡ suc l = b.chains.once q.number low (suc k) (suc l) x y (later k x at_k)
+        (later l y at_l) e in
         omega arith) (λ r other low. b.chains.once r low);
     members = other_member;
     members_once = λ r d low i. b.chains.members_once r d low (old_chain r d i).0;
@@ -303,19 +317,22 @@ module _ {E A W : Type 0} (sides : ℕ) (z : Sizes) (words : List ℕ) (g : Pool
   }
 
   -- what a shape sees of it
-  pub looks_retired : (s : LoggedStep E A) → s.entry.changes ≡ [] → s.placed ≡ [] → LooksSame z words new g (after_step g after retired_status s)
+  pub looks_retired : (s : LoggedStep E A) → s.entry.changes ≡ [] → s.placed ≡ [] → LooksSame z words new g
+      (after_step g after retired_status s)
   looks_retired s no_change no_call = record {
     seen = record {
       heads = stored.heads;
       cells = λ n f number four used. stored.cells n f number four;
       attached_on = λ n state. stays_state n attached state (λ (e : attached ≡ in_hand q.number c.guard). absurd cc);
-      linked_was = λ n linked. ⊎_elim (λ (i : IsIn n c.records). absurd (subst IsLinked (inside n i) linked)) (λ (out : IsIn n c.records → ⊥). outside n out)
+      linked_was = λ n linked. ⊎_elim (λ (i : IsIn n c.records). absurd (subst IsLinked (inside n i) linked))
+          (λ (out : IsIn n c.records → ⊥). outside n out)
           (in_or_out n c.records);
       used_was = used_before;
       order = record { step = s; is = refl; no_change = no_change; no_call = no_call };
     };
     passes = λ p low. put_each (λ (p : ℕ) (v : PassState W). SameOwn (g.of p) v) g.of q.number after
-        (same_own (g.of q.number) after (ap (λ v. v.own) (sym is)) (ap (λ v. v.walk) (sym is))) (λ r other. same_own (g.of r) (g.of r) refl refl) p;
+        (same_own (g.of q.number) after (ap (λ v. v.own) (sym is)) (ap (λ v. v.walk) (sym is)))
+        (λ r other. same_own (g.of r) (g.of r) refl refl) p;
   }
 
 module _ {E A W : Type 0} (sides : ℕ) (opens : Sizes → List ℕ) (addition : Sizes → List ℕ → PoolState E A W → Type 0) where
@@ -332,7 +349,8 @@ module _ {E A W : Type 0} (sides : ℕ) (opens : Sizes → List ℕ) (addition :
       let e : LoggedStep E A = entry retire_step place 0 0 [] [] g.order q' in
       let status : ℕ → RecordState = retired_status sides z words g q c b pass is at spent in
       let b' : Base sides z (set words place 0) (after_step g q' status e) =
-      subst (λ (k : ℕ). Base sides z (set words k 0) (after_step g q' status e)) (sym at_place) (base_retired sides z words g q c b pass is at spent e) in
+      subst (λ (k : ℕ). Base sides z (set words k 0) (after_step g q' status e)) (sym at_place)
+      (base_retired sides z words g q c b pass is at spent e) in
       let looks : LooksSame z words (set words place 0) g (after_step g q' status e) =
       subst (λ (k : ℕ). LooksSame z words (set words k 0) g (after_step g q' status e)) (sym at_place)
       (looks_retired sides z words g q c b pass is at spent e refl refl) in record {
