@@ -16,8 +16,8 @@ use Rattle.pp_rule.specs.Rule.{number_of, Numbers, PrivateWords, Hazards, Scans}
 use Rattle.pp_rule.proofs.Put.{put, put_here, put_else, put_each, in_nil, in_first, in_later, in_cases}
 
 -- the images stay where an entry of the list gets another with the same image
-pub images_set : {A B : Type 0} (f : A → B) (xs : List A) (k : ℕ) (x y : A) → get_elem? xs k ≡ some x → f y ≡ f x → map f
-    (set xs k y) ≡ map f xs
+pub images_set : {A B : Type 0} (f : A → B) (xs : List A) (k : ℕ) (x y : A) → get_elem? xs k ≡ some x → f y ≡ f x
+    → map f (set xs k y) ≡ map f xs
 images_set f [] k x y at same = refl
 images_set f (a ∷ xs) zero x y at same = ap (λ b. b ∷ map f xs) (same ∙ ap f (sym (some-injective a x at)))
 images_set f (a ∷ xs) (suc k) x y at same = ap (λ bs. f a ∷ bs) (images_set f xs k x y at same)

@@ -161,8 +161,8 @@ module _ {E A W : Type 0} (sides : ℕ) (z : Sizes) (words : List ℕ) (g : Pool
   }
     where
       low_field : (n f : ℕ) → IsNumber z n → f < 2 → cell_word new z n f ≡ cell_word words z n f
-      low_field n f number two = other_cell n f (λ e. let high : 2 ≤ f = (d.place_is.holder n f number (omega arith) e).0 in absurd
-          (omega arith))
+      low_field n f number two = other_cell n f (λ e. let high : 2 ≤ f = (d.place_is.holder n f number (omega arith) e).0 in
+          absurd (omega arith))
 
       held_now : (r i : ℕ) → r < z.passes → i < 5 → (slot (g.of r) i).held ≡ true → Held z new detached_status (slot (g.of r) i)
       held_now r i low five on = let w : WalkSlot = slot (g.of r) i in let h : Held z words g.status w = b.hazards.held r i low five on in
@@ -178,6 +178,8 @@ module _ {E A W : Type 0} (sides : ℕ) (z : Sizes) (words : List ℕ) (g : Pool
             );
           }
 
+  -- Outside the chain only the changed word led to it, so what stays attached leads on, and so does the new word. The chain
+  -- leads as it did, and what it leads to is now nil, in hand with it, or what its frontier word names.
   links_now : Links sides z new detached_status
   links_now = let most = b.two in record {
     heads = λ h low. dite (ℕ_discrete (head_place z h) place) (λ e. subst (Leads z detached_status) (sym (this_head h e)) new_leads)
@@ -274,6 +276,7 @@ module _ {E A W : Type 0} (sides : ℕ) (z : Sizes) (words : List ℕ) (g : Pool
   new_in = put_each (λ (r : ℕ) (v : PassState W). r ≡ q.number → IsIn c v.chains) g.of q.number after
       (λ e. in_last c q.chains) (λ r other e. absurd (other e))
 
+  -- The new chain stands behind the others, which have none of its records, and no other has its frontier word.
   chains_now : Chains sides z new (put g.of q.number after) detached_status
   chains_now = record {
     guard = λ r e low i. ⊎_elim (λ (old : IsIn e (g.of r).chains). b.chains.guard r e low old)

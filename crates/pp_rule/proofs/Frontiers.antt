@@ -103,11 +103,13 @@ module _ {E A W : Type 0} (sides : ℕ) (opens : Sizes → List ℕ) (addition :
       → IsUnused j me.0.known → place ≡ frontier_place z me.0.known.number j
       → Allows (Holds sides opens addition z) slots id me place (λ _. n)
       (λ _ m'. (m'.1 ≡ []) × MadeQuietStep guard_step place n n (with_frontier j n me.0.known) me.0 m'.0)
-  guards_frontier alike z slots id place j n me lone lt unused at = stores_frontier alike guard_step refl z slots id place j n me lone lt unused at
+  guards_frontier alike z slots id place j n me lone lt unused at =
+      stores_frontier alike guard_step refl z slots id place j n me lone lt unused at
 
   -- It may be cleared.
   pub unguards_frontier : KeptAlike sides addition → (z : Sizes) (slots id place j : ℕ) (me : Me Unit (SeatView E A W)) → IsAlone me → j < 4
       → IsUnused j me.0.known → place ≡ frontier_place z me.0.known.number j
       → Allows (Holds sides opens addition z) slots id me place (λ _. 0)
       (λ _ m'. (m'.1 ≡ []) × MadeQuietStep unguard_step place 0 0 (with_frontier j 0 me.0.known) me.0 m'.0)
-  unguards_frontier alike z slots id place j me lone lt unused at = stores_frontier alike unguard_step refl z slots id place j 0 me lone lt unused at
+  unguards_frontier alike z slots id place j me lone lt unused at =
+      stores_frontier alike unguard_step refl z slots id place j 0 me lone lt unused at

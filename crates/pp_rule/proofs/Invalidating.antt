@@ -161,6 +161,7 @@ module _ {E A W : Type 0} (sides : ℕ) (z : Sizes) (words : List ℕ) (g : Pool
     held = held_now;
   }
 
+  -- Only a link of a record in hand changed, and with INVALID it may lead anywhere.
   links_now : Links sides z new g.status
   links_now = let most = b.two in record {
     heads = λ h low. subst (Leads z g.status) (sym (link_stored.heads h low)) (b.links.heads h low);
@@ -249,6 +250,7 @@ module _ {E A W : Type 0} (sides : ℕ) (z : Sizes) (words : List ℕ) (g : Pool
           (at_set q.chains k j.0 (invalidated n side c) d j.1))
           (λ r other low j. b.chains.valid r m t d low j of_it lt) r low i
 
+  -- Each chain is as it was but for the list of links that may have no INVALID, and the link that left the list has it.
   chains_now : Chains sides z new (put g.of q.number after) g.status
   chains_now = record {
     guard = λ r d low i. let o = old_chain r d i in subst (λ (j : ℕ). j < 4) (ap (λ x. x.guard) o.1.1) (b.chains.guard r o.0 low o.1.0);

@@ -131,6 +131,7 @@ module _ {E A W : Type 0} (sides : ℕ) (z : Sizes) (words : List ℕ) (g : Pool
       behind d zero e member out = absurd (out (subst (λ (x : Chain). IsIn m x.records) (some-injective d c (sym e ∙ at)) member))
       behind d (suc k) e member out = (k, rest_get q.chains k ∙ e)
 
+  -- The records of the chain were in hand, so they stand in no list yet, and now they stand behind the retired ones.
   numbers_now : Numbers z (put g.of q.number after) retired_status
   numbers_now = record {
     scope = λ n number. ⊎_elim (λ (i : IsIn n c.records). subst (IsStateIn z) (sym (inside n i)) pass)
@@ -206,6 +207,8 @@ module _ {E A W : Type 0} (sides : ℕ) (z : Sizes) (words : List ℕ) (g : Pool
       held_on : (w : WalkSlot) → Held z words g.status w → Held z words retired_status w
       held_on w h = record { number = h.number; used = used_on w.named h.used; key = h.key; value = h.value; learnt = h.learnt }
 
+  -- No link of another chain leads to this one, so what is in hand still leads on. The links of this chain have INVALID, since
+  -- none is left that may have none.
   links_now : Links sides z new retired_status
   links_now = record {
     heads = λ h low. subst (Leads z retired_status) (sym (stored.heads h low)) (leads_on_retired (b.links.heads h low));
