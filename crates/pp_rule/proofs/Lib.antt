@@ -9,3 +9,8 @@ pub mod WalkWords
 pub mod Sources
 pub mod Confirming
 pub mod Private
+pub mod Frontiers
+pub mod Chained
+pub mod Invalidating
+pub mod Retiring
+pub mod Detaching
