@@ -9,3 +9,5 @@ pub mod WalkWords
 pub mod Sources
 pub mod Confirming
 pub mod Private
+pub mod Without
+pub mod Scanning
