@@ -11,3 +11,4 @@ pub mod Confirming
 pub mod Private
 pub mod Without
 pub mod Scanning
+pub mod Freeing
