@@ -12,3 +12,4 @@ pub mod Private
 pub mod Without
 pub mod Scanning
 pub mod Freeing
+pub mod Seats
