@@ -13,3 +13,6 @@ pub mod Without
 pub mod Scanning
 pub mod Freeing
 pub mod Seats
+pub mod OpeningWords
+pub mod Shares
+pub mod Opening

@@ -23,7 +23,7 @@ use Rattle.pp_rule.proofs.Put.{put, put_here, put_else, in_nil, in_first, in_lat
 use Rattle.pp_rule.proofs.Without.{once_tail, once_head, once_cons}
 use Rattle.pp_rule.proofs.Histories.{made_append}
 
-either_way : {B : Type 0} (b : Bool) → (b ≡ true → B) → (b ≡ false → B) → B
+pub either_way : {B : Type 0} (b : Bool) → (b ≡ true → B) → (b ≡ false → B) → B
 either_way true f g = f refl
 either_way false f g = g refl
 
