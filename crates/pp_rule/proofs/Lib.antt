@@ -16,3 +16,4 @@ pub mod Seats
 pub mod OpeningWords
 pub mod Shares
 pub mod Opening
+pub mod Counting

@@ -61,6 +61,10 @@ module _ {A : Type 0} where
   longer_first : (xs ys : List A) → leb (length xs) (length ys) ≡ false → longer xs ys ≡ xs
   longer_first xs ys e = ap (λ (b : Bool). cond b ys xs) e
 
+  -- the longer of two lists is one of them
+  pub longer_one : (xs ys : List A) → (longer xs ys ≡ xs) ⊎ (longer xs ys ≡ ys)
+  longer_one xs ys = either_way (leb (length xs) (length ys)) (λ le. inr (longer_second xs ys le)) (λ gt. inl (longer_first xs ys gt))
+
   -- the longer of two beginnings begins the list, and begins with both
   longer_begins : (g xs ys : List A) → BeginsWith g xs → BeginsWith g ys → BeginsWith g (longer xs ys)
   longer_begins g xs ys b c = either_way (leb (length xs) (length ys))
@@ -117,7 +121,8 @@ module _ {E A W : Type 0} (sides : ℕ) (opens : Sizes → List ℕ) (addition :
       → Tied z g was j u → Tied z g now j u
   tied_on g was now j u on t = record {
     begins = t.begins;
-    each = λ q i. let old = t.each q i in record { number = old.number; sizes = old.sizes; is = old.is; seat = on q.number old.seat; steps = old.steps };
+    each = λ q i. let old = t.each q i in
+        record { number = old.number; sizes = old.sizes; is = old.is; seat = on q.number old.seat; steps = old.steps };
     apart = t.apart;
     kept = λ o i. let old = t.kept o i in record { begins = old.begins; seat = on o.pass old.seat; steps = old.steps };
   }

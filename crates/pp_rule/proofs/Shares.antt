@@ -50,6 +50,14 @@ once_records low (suc n) = once_cons number_of (empty low) (records_from (low + 
     (λ d i same. let least : low + 1 ≤ d.number = (in_records (low + 1) n d i).0 in absurd (omega arith)) (once_records (low + 1) n)
 
 module _ {W : Type 0} (sentinels : ℕ) (own : W) (z : Sizes) where
+  -- the first of the passes that are still to be dealt, and the others
+  pub dealt_next : (low n : ℕ) → 1 ≤ n
+      → dealt_from sentinels own z low n ≡ dealt sentinels own z low ∷ dealt_from sentinels own z (low + 1) (n - 1)
+  unfolding dealt_from
+  dealt_next low zero some = absurd (omega arith)
+  dealt_next low (suc n) some = ap (λ k. dealt sentinels own z low ∷ dealt_from sentinels own z (low + 1) k)
+      (let same : n ≡ suc n - 1 = omega arith in same)
+
   pub in_dealt : (low n : ℕ) (q : PassState W) → IsIn q (dealt_from sentinels own z low n)
       → (c : ℕ) × ((low ≤ c) × (c < low + n) × (q ≡ dealt sentinels own z c))
   unfolding dealt_from
