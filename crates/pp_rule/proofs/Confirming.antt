@@ -29,9 +29,11 @@ use Rattle.pp_rule.proofs.Sources.{Sound, source_sound}
 abbrev pub learnt_of : ℕ → ℕ → WalkSlot → WalkSlot
 learnt_of side word w = record w { learnt = (side, word) ∷ w.learnt }
 
-module _ {E A W : Type 0} (sides : ℕ) (z : Sizes) (words : List ℕ) (g : PoolState E A W) (q q' : PassState W) (i : ℕ) (s : LoggedStep E A) where
+module _ {E A W : Type 0} (sides : ℕ) (z : Sizes) (words : List ℕ) (g : PoolState E A W) (q q' : PassState W) (i : ℕ)
+    (s : LoggedStep E A) where
   -- The frozen word of a link of the held record is learnt.
-  pub base_link_learnt : (side : ℕ) → Base sides z words g → q.number < z.passes → g.of q.number ≡ q → i < 5 → (slot q i).held ≡ true → side < sides
+  pub base_link_learnt : (side : ℕ) → Base sides z words g → q.number < z.passes → g.of q.number ≡ q → i < 5 → (slot q i).held ≡ true
+      → side < sides
       → IsFrozen (cell_word words z (slot q i).named (2 + side)) → WalkSet i (learnt_of side (cell_word words z (slot q i).named (2 + side))
       (slot q i)) q q'
       → Base sides z words (after_step g q' g.status s)
@@ -73,7 +75,8 @@ module _ {E A W : Type 0} (sides : ℕ) (z : Sizes) (words : List ℕ) (g : Pool
 module _ {E A W : Type 0} (sides : ℕ) (opens : Sizes → List ℕ) (addition : Sizes → List ℕ → PoolState E A W
     → Type 0) (alike : KeptAlike sides addition) where
   -- The link of a head may be loaded.
-  pub loads_head : (z : Sizes) (slots id place head : ℕ) (me : Me Unit (SeatView E A W)) → IsAlone me → head < z.heads → place ≡ head_place z head
+  pub loads_head : (z : Sizes) (slots id place head : ℕ) (me : Me Unit (SeatView E A W)) → IsAlone me → head < z.heads
+      → place ≡ head_place z head
       → Allows (Holds sides opens addition z) slots id me place (λ n. n) (λ n m'. (m'.1 ≡ []) × LoadedLink me.0.known n place me.0 m'.0)
   loads_head z slots id place head me lone low at = let q : PassState W = me.0.known in
       allows sides opens addition z slots id place load_step me (λ n. n) (λ n. n) (λ n m'. (m'.1 ≡ []) × LoadedLink q n place me.0 m'.0)
@@ -135,7 +138,13 @@ module _ {E A W : Type 0} (sides : ℕ) (opens : Sizes → List ℕ) (addition :
         × LoadedLink (learning frozen i side n q) n place me.0 m'.0)
         lone (λ m no. refl) (λ m bad. absurd (false≢true bad))
         (λ words g b add pass is sizes fits. let n : ℕ = get_or words place 0 in
-        let sound : Sound z g.of g.status n = source_sound sides z words g q place b pass is (inr (i, (side, (lt, below, on, at)))) in record {
+        let sound : Sound z g.of g.status n = source_sound sides z words g q place b pass is (inr (
+          i,
+          (
+            side,
+            (lt, below, on, at),
+          ),
+        )) in record {
           known = learning frozen i side n q;
           status = g.status;
           changes = [];
@@ -153,11 +162,13 @@ module _ {E A W : Type 0} (sides : ℕ) (opens : Sizes → List ℕ) (addition :
         })
 
   -- The second load of a link confirms what was announced where the link is as it was: the record is held.
-  pub confirms : (z : Sizes) (slots id place i first : ℕ) (me : Me Unit (SeatView E A W)) → IsAlone me → i < 5 → (slot me.0.known i).held ≡ false
+  pub confirms : (z : Sizes) (slots id place i first : ℕ) (me : Me Unit (SeatView E A W)) → IsAlone me → i < 5
+      → (slot me.0.known i).held ≡ false
       → (slot me.0.known i).named ≡ target first → invalid_bit first ≡ 0 → target first ≢ 0 → IsSource sides z me.0.known place
       → Allows (Holds sides opens addition z) slots id me place (λ n. n) (λ n m'. (m'.1 ≡ []) × Confirmed i first n place me.0 m'.0)
   confirms z slots id place i first me lone lt free named valid real source = let q : PassState W = me.0.known in
-      allows sides opens addition z slots id place confirm_step me (λ n. n) (λ n. n) (λ n m'. (m'.1 ≡ []) × Confirmed i first n place me.0 m'.0)
+      allows sides opens addition z slots id place confirm_step me (λ n. n) (λ n. n) (λ n m'.
+      (m'.1 ≡ []) × Confirmed i first n place me.0 m'.0)
       lone (λ m no. refl) (λ m bad. absurd (false≢true bad))
       (λ words g b add pass is sizes fits. let n : ℕ = get_or words place 0 in
       let sound : Sound z g.of g.status n = source_sound sides z words g q place b pass is source in dite (ℕ_discrete n first)
@@ -207,5 +218,14 @@ module _ {E A W : Type 0} (sides : ℕ) (opens : Sizes → List ℕ) (addition :
         changes = [];
         placed = [];
         keeps_rule = idle_keeps sides opens addition alike confirm_step place z words g q b add pass is sizes;
-        tells = λ v is_now made. (refl, record { small = sound.small; number = λ e. absurd (ne e); same = λ e. absurd (ne e); other = λ _. made });
+        tells = λ v is_now made. (
+          refl,
+          record {
+            small = sound.small;
+            number = λ e. absurd (ne e);
+            same = λ e. absurd
+                (ne e);
+            other = λ _. made;
+          },
+        );
       }))

@@ -33,14 +33,16 @@ module _ (z : Sizes) where
   pub same_content : (words : List ℕ) → SameContent z words words
   same_content words = record { wide = refl; shelves = λ j low. refl; heads = λ h low. refl; cells = λ n f number four. refl }
 
-  pub walk_content : (words : List ℕ) (place value p i : ℕ) → WalkStored z words (set words place value) p i value → SameContent z words (set words place value)
+  pub walk_content : (words : List ℕ) (place value p i : ℕ) → WalkStored z words (set words place value) p i value
+      → SameContent z words (set words place value)
   walk_content words place value p i s = record { wide = length-set words place value; shelves = s.shelves; heads = s.heads; cells = s.cells }
 
   pub frontier_content : (words : List ℕ) (place value p j : ℕ) → FrontierStored z words (set words place value) p j value
       → SameContent z words (set words place value)
   frontier_content words place value p j s = record { wide = length-set words place value; shelves = s.shelves; heads = s.heads; cells = s.cells }
 
-  pub held_after : (old new : List ℕ) (status : ℕ → RecordState) (w : WalkSlot) → SameUsed z status old new → Held z old status w → Held z new status w
+  pub held_after : (old new : List ℕ) (status : ℕ → RecordState) (w : WalkSlot) → SameUsed z status old new → Held z old status w
+      → Held z new status w
   held_after old new status w s h = record {
     number = h.number;
     used = h.used;
@@ -64,10 +66,12 @@ module _ (z : Sizes) where
       → Links sides z old status → Links sides z new status
   links_after sides old new status two s guards l = record {
     heads = λ h low. subst (Leads z status) (sym (s.heads h low)) (l.heads h low);
-    linked = λ n side number low is. subst (Leads z status) (sym (same n side number low (subst IsUsed (sym is) tt))) (l.linked n side number low is);
+    linked = λ n side number low is. subst (Leads z status) (sym (same n side number low (subst IsUsed (sym is) tt)))
+        (l.linked n side number low is);
     hand = λ n side p j number low is. subst (Leaves z new status p j) (sym (same n side number low (subst IsUsed (sym is) tt)))
         (leaves (cell_word old z n (2 + side)) p j (guards n p j number is) (l.hand n side p j number low is));
-    spent = λ n side p number low is. subst (λ (w : ℕ). IsSmall w × (invalid_bit w ≡ 1)) (sym (same n side number low (subst IsUsed (sym is) tt)))
+    spent = λ n side p number low is. subst (λ (w : ℕ). IsSmall w × (invalid_bit w ≡ 1)) (sym (same n side number low (subst IsUsed
+        (sym is) tt)))
         (l.spent n side p number low is);
   }
     where
@@ -101,7 +105,8 @@ module _ {W : Type 0} (z : Sizes) (of : ℕ → PassState W) (p : ℕ) (q' : Pas
       → Numbers z of status → Numbers z (put of p q') status
   numbers_after status owned_is retired_is n = record {
     scope = n.scope;
-    owned_to = λ r d low. put_each (λ (r : ℕ) (q : PassState W). r < z.passes → IsIn d q.owned → IsNumber z d.number × (status d.number ≡ owned r)) of p q'
+    owned_to = λ r d low. put_each (λ (r : ℕ) (q : PassState W). r < z.passes → IsIn d q.owned
+        → IsNumber z d.number × (status d.number ≡ owned r)) of p q'
         (λ here i. let was = image_at number_of (of p).owned q'.owned owned_is i.0 d i.1 in
         let old = n.owned_to p was.0 here (i.0, was.1.0) in subst (λ (m : ℕ). IsNumber z m × (status m ≡ owned p)) was.1.1 old)
         (λ r other here i. n.owned_to r d here i) r low;
@@ -113,9 +118,11 @@ module _ {W : Type 0} (z : Sizes) (of : ℕ → PassState W) (p : ℕ) (q' : Pas
         (λ r other here e. n.owned_from r m here number e) r low is;
     owned_once = put_each (λ (r : ℕ) (q : PassState W). r < z.passes → OnceBy number_of q.owned) of p q'
         (λ here. once_same number_of (of p).owned q'.owned owned_is (n.owned_once p here)) (λ r other here. n.owned_once r here);
-    retired_to = λ r m low. put_each (λ (r : ℕ) (q : PassState W). r < z.passes → IsIn m q.retired → IsNumber z m × (status m ≡ retired r)) of p q'
+    retired_to = λ r m low. put_each (λ (r : ℕ) (q : PassState W). r < z.passes → IsIn m q.retired
+        → IsNumber z m × (status m ≡ retired r)) of p q'
         (λ here i. n.retired_to p m here (subst (λ (l : List ℕ). IsIn m l) retired_is i)) (λ r other here i. n.retired_to r m here i) r low;
-    retired_from = λ r m low number is. put_each (λ (r : ℕ) (q : PassState W). r < z.passes → status m ≡ retired r → IsIn m q.retired) of p q'
+    retired_from = λ r m low number is. put_each (λ (r : ℕ) (q : PassState W). r < z.passes → status m ≡ retired r
+        → IsIn m q.retired) of p q'
         (λ here e. subst (λ (l : List ℕ). IsIn m l) (sym retired_is) (n.retired_from p m here number e))
         (λ r other here e. n.retired_from r m here number e) r low is;
     retired_once = put_each (λ (r : ℕ) (q : PassState W). r < z.passes → Once q.retired) of p q'
@@ -145,7 +152,8 @@ module _ {W : Type 0} (z : Sizes) (of : ℕ → PassState W) (p : ℕ) (q' : Pas
         (λ low. walks_here i lt) (λ r other low. walks r i low other lt ∙ h.walks r i low lt) r low;
     frontiers = λ r j low lt. put_each (λ (r : ℕ) (q : PassState W). r < z.passes → frontier_word new z r j ≡ guarding q j) of p q'
         (λ low. fronts_here j lt) (λ r other low. fronts r j low other lt ∙ h.frontiers r j low lt) r low;
-    held = λ r i low lt. put_each (λ (r : ℕ) (q : PassState W). r < z.passes → (slot q i).held ≡ true → Held z new status (slot q i)) of p q'
+    held = λ r i low lt. put_each (λ (r : ℕ) (q : PassState W). r < z.passes → (slot q i).held ≡ true
+        → Held z new status (slot q i)) of p q'
         (λ low on. held_here i lt on) (λ r other low on. held_after z old new status (slot (of r) i) s (h.held r i low lt on)) r low;
   }
 
@@ -165,7 +173,8 @@ module _ {W : Type 0} (z : Sizes) (of : ℕ → PassState W) (p : ℕ) (q' : Pas
       old_link.0,
       old_link.1,
       subst (SameTarget l.word)
-          (sym (same l.number l.side (was.members r l.number c low (old_in r c i) old_link.0).0 old_link.1 (used r l.number c low (old_in r c i) old_link.0)))
+          (sym (same l.number l.side (was.members r l.number c low (old_in r c i) old_link.0).0 old_link.1 (used r l.number c low
+          (old_in r c i) old_link.0)))
           old_link.2,
     );
   }
@@ -199,10 +208,13 @@ module _ {W : Type 0} (z : Sizes) (of : ℕ → PassState W) (p : ℕ) (q' : Pas
     fronts = λ r n q j m side low i read number lt is valid to. let e = same m side number lt (subst IsUsed (sym is) tt) in
         was.fronts r n q j m side low (left_was r n i) (subst (λ (k : ℕ). 4 * q + j < k) (read_was r) read) number lt is
         (ap invalid_bit (sym e) ∙ valid) (ap target (sym e) ∙ to);
-    walks = λ r n q i low left pass five read. put_each (λ (t : ℕ) (k : PassState W). t < z.passes → 4 * z.passes + 5 * t + i < (put of p q' r).scan.read
+    walks = λ r n q i low left pass five read. put_each (λ (t : ℕ) (k : PassState W). t < z.passes
+        → 4 * z.passes + 5 * t + i < (put of p q' r).scan.read
         → (slot k i).held ≡ true → (slot k i).named ≢ n) of p q'
-        (λ low_p read on. unscanned i five on r n low (left_was r n left) (subst (λ (k : ℕ). 4 * z.passes + 5 * p + i < k) (read_was r) read))
-        (λ t other low_t read on. was.walks r n t i low (left_was r n left) low_t five (subst (λ (k : ℕ). 4 * z.passes + 5 * t + i < k) (read_was r) read) on)
+        (λ low_p read on. unscanned i five on r n low (left_was r n left) (subst (λ (k : ℕ). 4 * z.passes + 5 * p + i < k)
+        (read_was r) read))
+        (λ t other low_t read on. was.walks r n t i low (left_was r n left) low_t five (subst (λ
+        (k : ℕ). 4 * z.passes + 5 * t + i < k) (read_was r) read) on)
         q pass read;
   }
     where

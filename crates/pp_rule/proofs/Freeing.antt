@@ -1,5 +1,5 @@
 -- A reclaim pass reads its last hazard word: what no hazard word named is free.
-use Rattle.std.proofs.Common.{◌≡◌, ◌≢◌, ◌⊎◌, ℕ, ◌+◌, ◌-◌, ◌*◌, ◌<◌, ◌≤◌, true, List, [], ◌∷◌, ◌++◌, map, length, get_or, refl}
+use Rattle.std.proofs.Common.{◌≡◌, ◌≢◌, ◌⊎◌, ℕ, ◌+◌, ◌-◌, ◌*◌, ◌<◌, true, List, [], ◌∷◌, ◌++◌, map, length, get_or, refl}
 use Rattle.std.proofs.Common.{sym, ap, ◌∙◌, subst, inl, inr, ⊎_elim, arith}
 use Rattle.std.proofs.Math.Bool.{false≢true}
 use Rattle.std.proofs.Math.Decide.{ℕ_discrete}
@@ -13,7 +13,7 @@ use Rattle.pp_rule.specs.Lists.{IsIn, OnceBy, Once, without}
 use Rattle.pp_rule.specs.Orders.{LoggedStep, scan_walk_step}
 use Rattle.pp_rule.specs.Views.{WalkSlot, PrivateRecord, PassState, SeatView, slot}
 use Rattle.pp_rule.specs.States.{RecordState, attached, in_hand, retired, owned, shelved, IsUsed, IsLinked, IsStateIn, PoolState}
-use Rattle.pp_rule.specs.States.{Leads, Leaves, Held}
+use Rattle.pp_rule.specs.States.{Leads, Held}
 use Rattle.pp_rule.specs.Rule.{Reads, number_of, Numbers, Hazards, Links, Chains, Base}
 use Rattle.pp_rule.specs.Ties.{Holds}
 use Rattle.pp_rule.specs.Steps.{entry, IsAlone, still, scanned, reclaimed, Reclaimed}

@@ -24,14 +24,16 @@ module _ {E : Type 0} where
 
   changes_append : (es fs : List (OrderEntry E)) → changes_of (es ++ fs) ≡ changes_of es ++ changes_of fs
   changes_append [] fs = refl
-  changes_append (x ∷ es) fs = ap (λ l. x.changes ++ l) (changes_append es fs) ∙ sym (append_assoc x.changes (changes_of es) (changes_of fs))
+  changes_append (x ∷ es) fs = ap (λ l. x.changes ++ l) (changes_append es fs)
+      ∙ sym (append_assoc x.changes (changes_of es) (changes_of fs))
 
   steps_append : (p : ℕ) (es fs : List (OrderEntry E)) → steps_of p (es ++ fs) ≡ steps_of p es ++ steps_of p fs
   steps_append p [] fs = refl
   steps_append p (x ∷ es) fs = by (eqb x.pass p) (steps_append p es fs)
     where
       by : (b : Bool) → steps_of p (es ++ fs) ≡ steps_of p es ++ steps_of p fs
-          → cond b (x.step ∷ steps_of p (es ++ fs)) (steps_of p (es ++ fs)) ≡ cond b (x.step ∷ steps_of p es) (steps_of p es) ++ steps_of p fs
+          → cond b (x.step ∷ steps_of p (es ++ fs)) (steps_of p (es ++ fs)) ≡ cond b (x.step ∷ steps_of p es)
+          (steps_of p es) ++ steps_of p fs
       by true h = ap (λ l. x.step ∷ l) h
       by false h = h
 
@@ -76,7 +78,8 @@ module _ {E A : Type 0} where
   unfolding made_by
   made_append p xs ys = ap (steps_of p) (entries_append xs ys) ∙ steps_append p (entries_of xs) (entries_of ys)
 
-  pub made_here : (xs : List (LoggedStep E A)) (s : LoggedStep E A) → made_by s.entry.pass (xs ++ s ∷ []) ≡ made_by s.entry.pass xs ++ s.entry.step ∷ []
+  pub made_here : (xs : List (LoggedStep E A)) (s : LoggedStep E A)
+      → made_by s.entry.pass (xs ++ s ∷ []) ≡ made_by s.entry.pass xs ++ s.entry.step ∷ []
   unfolding made_by entries_of
   made_here xs s = made_append s.entry.pass xs (s ∷ [])
       ∙ ap (λ (b : Bool). made_by s.entry.pass xs ++ cond b (s.entry.step ∷ []) []) (eq-eqb s.entry.pass s.entry.pass refl)
@@ -92,17 +95,20 @@ module _ {E A : Type 0} where
   placed_append p (x ∷ xs) ys = by (eqb x.entry.pass p) (placed_append p xs ys)
     where
       by : (b : Bool) → placed_by p (xs ++ ys) ≡ placed_by p xs ++ placed_by p ys
-          → cond b (x.placed ++ placed_by p (xs ++ ys)) (placed_by p (xs ++ ys)) ≡ cond b (x.placed ++ placed_by p xs) (placed_by p xs) ++ placed_by p ys
+          → cond b (x.placed ++ placed_by p (xs ++ ys)) (placed_by p (xs ++ ys)) ≡ cond b (x.placed ++ placed_by p xs)
+          (placed_by p xs) ++ placed_by p ys
       by true h = ap (λ l. x.placed ++ l) h ∙ sym (append_assoc x.placed (placed_by p xs) (placed_by p ys))
       by false h = h
 
-  pub placed_here : (xs : List (LoggedStep E A)) (s : LoggedStep E A) → placed_by s.entry.pass (xs ++ s ∷ []) ≡ placed_by s.entry.pass xs ++ s.placed
+  pub placed_here : (xs : List (LoggedStep E A)) (s : LoggedStep E A)
+      → placed_by s.entry.pass (xs ++ s ∷ []) ≡ placed_by s.entry.pass xs ++ s.placed
   unfolding placed_by
   placed_here xs s = placed_append s.entry.pass xs (s ∷ [])
       ∙ (ap (λ (b : Bool). placed_by s.entry.pass xs ++ cond b (s.placed ++ []) []) (eq-eqb s.entry.pass s.entry.pass refl)
       ∙ ap (λ l. placed_by s.entry.pass xs ++ l) (append-nil s.placed))
 
-  pub placed_else : (p : ℕ) (xs : List (LoggedStep E A)) (s : LoggedStep E A) → s.entry.pass ≢ p → placed_by p (xs ++ s ∷ []) ≡ placed_by p xs
+  pub placed_else : (p : ℕ) (xs : List (LoggedStep E A)) (s : LoggedStep E A) → s.entry.pass ≢ p
+      → placed_by p (xs ++ s ∷ []) ≡ placed_by p xs
   unfolding placed_by
   placed_else p xs s ne = placed_append p xs (s ∷ [])
       ∙ (ap (λ (b : Bool). placed_by p xs ++ cond b (s.placed ++ []) []) (ne_eqb s.entry.pass p ne) ∙ append-nil (placed_by p xs))
@@ -119,7 +125,8 @@ module _ {E A : Type 0} where
       by false again e = again e
 
   -- where no other step of the pass came between, no call of it was placed between
-  pub placed_kept : (p : ℕ) (xs first : List (LoggedStep E A)) → BeginsWith xs first → made_by p xs ≡ made_by p first → placed_by p xs ≡ placed_by p first
+  pub placed_kept : (p : ℕ) (xs first : List (LoggedStep E A)) → BeginsWith xs first → made_by p xs ≡ made_by p first
+      → placed_by p xs ≡ placed_by p first
   placed_kept p xs first b same = ap (placed_by p) b.1 ∙ (placed_append p first b.0
       ∙ (ap (λ l. placed_by p first ++ l) (none_placed p b.0 (nil_from_length (made_by p b.0)
       (let long = ap length (sym same ∙ (ap (made_by p) b.1 ∙ made_append p first b.0)) in

@@ -22,7 +22,8 @@ use Rattle.pp_rule.proofs.Frames.{SameLists, numbers_after, privates_after, haza
 
 module _ {E A W : Type 0} (sides : ℕ) (z : Sizes) where
   -- a record on a shelf names a shelf word that there is
-  pub shelf_scope : (words : List ℕ) (g : PoolState E A W) → Base sides z words g → (n j : ℕ) → g.status n ≡ shelved j → IsNumber z n → j < 8 * z.passes
+  pub shelf_scope : (words : List ℕ) (g : PoolState E A W) → Base sides z words g → (n j : ℕ) → g.status n ≡ shelved j → IsNumber z n
+      → j < 8 * z.passes
   shelf_scope words g b n j is number = subst (IsStateIn z) is (b.numbers.scope n number)
 
   -- a chain in hand has a pass and a frontier word that there are
@@ -43,9 +44,11 @@ module _ {E A W : Type 0} (sides : ℕ) (z : Sizes) where
     wide = content.wide ∙ b.wide;
     numbers = numbers_after z g.of q'.number q' g.status (ap (map number_of) lists.owned) lists.retired_are b.numbers;
     privates = privates_after z g.of q'.number q' words new
-        (λ r d below other i. reads_after z words new d (λ f four. content.cells d.number f (b.numbers.owned_to r d below i).0 four) (b.privates.reads r d below i))
+        (λ r d below other i. reads_after z words new d (λ f four. content.cells d.number f (b.numbers.owned_to r d below i).0 four)
+        (b.privates.reads r d below i))
         (λ d i. let was = subst (λ (l : List PrivateRecord). IsIn d l) lists.owned i in
-        reads_after z words new d (λ f four. content.cells d.number f (b.numbers.owned_to q'.number d low was).0 four) (b.privates.reads q'.number d low was));
+        reads_after z words new d (λ f four. content.cells d.number f (b.numbers.owned_to q'.number d low was).0 four)
+        (b.privates.reads q'.number d low was));
     hazards = hazards;
     links = links_after z sides words new g.status b.two used guards b.links;
     shelves = shelves_after z words new g.status (shelf_scope words g b) content.shelves b.shelves;
@@ -54,12 +57,14 @@ module _ {E A W : Type 0} (sides : ℕ) (z : Sizes) where
   }
 
   -- what is held already is left in no scan that read its word
-  pub was_unscanned : (words : List ℕ) (g : PoolState E A W) (p i : ℕ) → Base sides z words g → p < z.passes → i < 5 → (slot (g.of p) i).held ≡ true
+  pub was_unscanned : (words : List ℕ) (g : PoolState E A W) (p i : ℕ) → Base sides z words g → p < z.passes → i < 5
+      → (slot (g.of p) i).held ≡ true
       → Unscanned z g.of p (g.of p) i (slot (g.of p) i).named
   was_unscanned words g p i b low five on r m below left read = b.scans.walks r m p i below left low five read on
 
   -- the part of the pass that these facts speak of is as it was: they stay, whatever its shape's part
-  pub base_idle : (words : List ℕ) (g : PoolState E A W) (q q' : PassState W) (s : LoggedStep E A) → Base sides z words g → q.number < z.passes
+  pub base_idle : (words : List ℕ) (g : PoolState E A W) (q q' : PassState W) (s : LoggedStep E A) → Base sides z words g
+      → q.number < z.passes
       → g.of q.number ≡ q → SameBase q q' → Base sides z words (after_step g q' g.status s)
   base_idle words g q q' s b pass is same =
       let at : g.of q'.number ≡ q = ap g.of same.rest.number ∙ is in
@@ -77,7 +82,8 @@ module _ {E A W : Type 0} (sides : ℕ) (z : Sizes) where
       }
       (λ n p j number in_hand. refl)
       (hazards_after z g.of q'.number q' words words g.status used b.hazards
-      (ap (λ (l : List WalkSlot). length l) walk ∙ b.hazards.five q'.number low) (ap (λ (l : List ℕ). length l) frontier ∙ b.hazards.four q'.number low)
+      (ap (λ (l : List WalkSlot). length l) walk ∙ b.hazards.five q'.number low) (ap (λ (l : List ℕ). length l) frontier
+      ∙ b.hazards.four q'.number low)
       (λ r i below other five. refl) (λ i five. b.hazards.walks q'.number i low five ∙ sym (ap (λ (w : WalkSlot). w.named) (slots i)))
       (λ r j below other four. refl) (λ j four. b.hazards.frontiers q'.number j low four ∙ sym (guards j))
       (λ i five. subst (λ (w : WalkSlot). w.held ≡ true → Held z words g.status w) (sym (slots i)) (b.hazards.held q'.number i low five)))
@@ -101,11 +107,13 @@ module _ {E A W : Type 0} (sides : ℕ) (z : Sizes) where
       → s.entry.changes ≡ [] → s.placed ≡ [] → SameOwn (g.of q'.number) q' → LooksSame z words new g (after_step g q' g.status s)
   looks_after words new g q' s used no_change no_call own = record {
     seen = seen_after words new g q' s used no_change no_call;
-    passes = λ p low. put_each (λ (p : ℕ) (q : PassState W). SameOwn (g.of p) q) g.of q'.number q' own (λ r other. same_own (g.of r) (g.of r) refl refl) p;
+    passes = λ p low. put_each (λ (p : ℕ) (q : PassState W). SameOwn (g.of p) q) g.of q'.number q' own (λ r other. same_own (g.of r)
+        (g.of r) refl refl) p;
   }
 
   pub clears_looks : (forget : ℕ → W → W) (words new : List ℕ) (g : PoolState E A W) (q' : PassState W) (i : ℕ) (s : LoggedStep E A)
-      → SameUsed z g.status words new → s.entry.changes ≡ [] → s.placed ≡ [] → q'.number < z.passes → i < 5 → Clears forget i (g.of q'.number) q'
+      → SameUsed z g.status words new → s.entry.changes ≡ [] → s.placed ≡ [] → q'.number < z.passes → i < 5
+      → Clears forget i (g.of q'.number) q'
       → Cleared forget z words new g (after_step g q' g.status s) q'.number i
   clears_looks forget words new g q' i s used no_change no_call low five here = record {
     pass = low;
@@ -122,13 +130,17 @@ loaded P words place p = subst P (sym (set-get_or words place 0)) p
 
 module _ {E A W : Type 0} (sides : ℕ) (opens : Sizes → List ℕ) (addition : Sizes → List ℕ → PoolState E A W → Type 0) where
   -- A load keeps the rule where the facts hold of the words as they are.
-  pub load_keeps : (kind place : ℕ) (z : Sizes) (words : List ℕ) (g : PoolState E A W) (old known : PassState W) (status : ℕ → RecordState) (changes : List E) (placed : List A)
+  pub load_keeps : (kind place : ℕ) (z : Sizes) (words : List ℕ) (g : PoolState E A W) (old known : PassState W) (status : ℕ
+      → RecordState) (changes : List E) (placed : List A)
       → known.number ≡ old.number → known.sizes ≡ z
-      → Base sides z words (after_step g known status (entry kind place (get_or words place 0) (get_or words place 0) changes placed g.order known))
-      → addition z words (after_step g known status (entry kind place (get_or words place 0) (get_or words place 0) changes placed g.order known))
+      → Base sides z words (after_step g known status (entry kind place (get_or words place 0)
+      (get_or words place 0) changes placed g.order known))
+      → addition z words (after_step g known status (entry kind place (get_or words place 0)
+      (get_or words place 0) changes placed g.order known))
       → KeepsRule sides opens addition kind place (get_or words place 0) (get_or words place 0) z words g old known status changes placed
   load_keeps kind place z words g old known status changes placed number sizes base added =
-      let g' : PoolState E A W = after_step g known status (entry kind place (get_or words place 0) (get_or words place 0) changes placed g.order known) in record {
+      let g' : PoolState E A W = after_step g known status (entry kind place (get_or words place 0)
+      (get_or words place 0) changes placed g.order known) in record {
         number = number;
         sizes = sizes;
         base = loaded (λ (ws : List ℕ). Base sides z ws g') words place base;
@@ -136,7 +148,8 @@ module _ {E A W : Type 0} (sides : ℕ) (opens : Sizes → List ℕ) (addition :
       }
 
   -- A load of any word may tell nothing and change nothing of what is known.
-  pub idle_keeps : KeptAlike sides addition → (kind place : ℕ) (z : Sizes) (words : List ℕ) (g : PoolState E A W) (q : PassState W) → Base sides z words g → addition z words g
+  pub idle_keeps : KeptAlike sides addition → (kind place : ℕ) (z : Sizes) (words : List ℕ) (g : PoolState E A W) (q : PassState W)
+      → Base sides z words g → addition z words g
       → q.number < z.passes → g.of q.number ≡ q → q.sizes ≡ z
       → KeepsRule sides opens addition kind place (get_or words place 0) (get_or words place 0) z words g q q g.status [] []
   idle_keeps alike kind place z words g q b add pass is sizes =

@@ -92,13 +92,16 @@ module _ {E A W : Type 0} (sides : ℕ) (z : Sizes) where
               (λ same. there.0 (b.numbers.owned_once p pass i.0 k c d was.1 (ap (λ
               (l : List PrivateRecord). get_elem? l k) owned_is ∙ at) same.0))) (b.privates.reads p c pass was))
               (at_set q.owned k i.0 (wrote f x d) c i.1));
-          hazards = hazards_after z g.of p q' words new g.status used b.hazards (ap (λ (l : List WalkSlot). length l) walk ∙ b.hazards.five p pass)
+          hazards = hazards_after z g.of p q' words new g.status used b.hazards (ap (λ (l : List WalkSlot). length l) walk
+              ∙ b.hazards.five p pass)
               (ap (λ v. length v.frontier) (sym is) ∙ b.hazards.four p pass) (λ r i low other five. stored.walks r i low five)
               (λ i five. stored.walks p i pass five ∙ (b.hazards.walks p i pass five ∙ ap (λ (v : PassState W). (slot v i).named) is))
               (λ r j low other four. stored.frontiers r j low four)
-              (λ j four. stored.frontiers p j pass four ∙ (b.hazards.frontiers p j pass four ∙ ap (λ (v : PassState W). get_or v.frontier j 0) is))
+              (λ j four. stored.frontiers p j pass four ∙ (b.hazards.frontiers p j pass four
+              ∙ ap (λ (v : PassState W). get_or v.frontier j 0) is))
               (λ i five on. held_after z words new g.status (slot q i) used
-              (subst (λ (v : PassState W). (slot v i).held ≡ true → Held z words g.status (slot v i)) is (b.hazards.held p i pass five) on));
+              (subst (λ (v : PassState W). (slot v i).held ≡ true
+              → Held z words g.status (slot v i)) is (b.hazards.held p i pass five) on));
           links = links_after z sides words new g.status b.two used
               (λ n r j number hand. let scope = hand_scope sides z words g b n r j hand number in stored.frontiers r j scope.0 scope.1) b.links;
           shelves = shelves_after z words new g.status (shelf_scope sides z words g b) stored.shelves b.shelves;
@@ -124,7 +127,8 @@ module _ {E A W : Type 0} (sides : ℕ) (opens : Sizes → List ℕ) (addition :
       let e : LoggedStep E A = entry write_step place x x [] [] g.order q' in
       let new : List ℕ = set words place x in
       let both : SameUsed z g.status words new × Base sides z new (after_step g q' g.status e) =
-      subst (λ (k : ℕ). SameUsed z g.status words (set words k x) × Base sides z (set words k x) (after_step g q' g.status e)) (sym at_place)
+      subst (λ (k : ℕ). SameUsed z g.status words (set words k x) × Base sides z (set words k x) (after_step g q' g.status e))
+      (sym at_place)
       (base_private_stored sides z words g q k f x d e b pass is at four) in record {
         known = q';
         status = g.status;

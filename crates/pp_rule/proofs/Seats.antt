@@ -2,7 +2,7 @@
 -- tells where one seat stands for all passes.
 use Rattle.std.proofs.Common.{◌≡◌, ◌≢◌, ◌⊎◌, ℕ, zero, suc, ◌+◌, ◌<◌, ◌≤◌, Bool, true, false, cond, eqb, leb, List, [], ◌∷◌, ◌++◌}
 use Rattle.std.proofs.Common.{length, set, refl}
-use Rattle.std.proofs.Common.{sym, ap, ◌∙◌, subst, inl, inr, ⊎_elim, append_assoc, append-nil, length-append, arith, eq-eqb, ne_eqb}
+use Rattle.std.proofs.Common.{sym, ap, ◌∙◌, subst, inl, inr, ⊎_elim, append-nil, length-append, arith, eq-eqb, ne_eqb}
 use Rattle.std.proofs.Common.{leb-true, leb-false}
 use Rattle.std.proofs.lemmas.List.{length-set, nil_from_length}
 use Rattle.std.proofs.Math.Decide.{ℕ_discrete}
@@ -12,7 +12,7 @@ use lib.ListN.{get_elem?}
 use Rattle.atomic_table.specs.Table.{State, Splits, Joins, Seen}
 use Rattle.atomic_table.proofs.Lists.{at_set, set_here, set_else, set_again, at_longer}
 use Rattle.pp_link.specs.declared.layout.Sizes.{Sizes}
-use Rattle.pp_rule.specs.Lists.{IsIn, OnceBy, BeginsWith, rest_of, longer}
+use Rattle.pp_rule.specs.Lists.{IsIn, BeginsWith, rest_of, longer}
 use Rattle.pp_rule.specs.Orders.{LoggedStep, made_by, entries_of}
 use Rattle.pp_rule.specs.Views.{PassState, SeatView, JoinedOrder, all_of}
 use Rattle.pp_rule.specs.States.{PoolState}

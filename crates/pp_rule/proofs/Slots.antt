@@ -50,7 +50,8 @@ module _ {W : Type 0} where
       → w.held ≡ (slot q i).held → w.named ≡ (slot q i).named → HoldsOn q q'
   holds_on_same q q' i w is low held named = record {
     held = λ j five. each_slot (λ k s. (slot q k).held ≡ true → s.held ≡ true) q q' i w is low (λ h. held ∙ h) (λ k k5 ne h. h) j five;
-    named = λ j five. each_slot (λ k s. (slot q k).held ≡ true → s.named ≡ (slot q k).named) q q' i w is low (λ h. named) (λ k k5 ne h. refl) j five;
+    named = λ j five. each_slot (λ k s. (slot q k).held ≡ true
+        → s.named ≡ (slot q k).named) q q' i w is low (λ h. named) (λ k k5 ne h. refl) j five;
   }
 
   pub holds_on_self : (q q' : PassState W) → q'.walk ≡ q.walk → HoldsOn q q'

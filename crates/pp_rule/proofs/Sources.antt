@@ -25,7 +25,8 @@ module _ {W : Type 0} (sides : ℕ) (z : Sizes) (words : List ℕ) (of : ℕ →
     to = λ valid. ⊎_elim inl (λ (t : IsNumber z (target w) × (status (target w) ≡ attached)). inr (t.0, subst IsUsed (sym t.1) tt)) l.to;
     unscanned = λ valid r m low i read same. let gone = s.left r m low i in ⊎_elim
         (λ (nil : target w ≡ 0). let one : 1 ≤ m = gone.0.0 in absurd (omega arith))
-        (λ (t : IsNumber z (target w) × (status (target w) ≡ attached)). let bad : attached ≡ retired r = sym t.1 ∙ (ap status same ∙ gone.1) in absurd cc) l.to;
+        (λ (t : IsNumber z (target w) × (status (target w) ≡ attached)). let bad : attached ≡ retired r = sym t.1 ∙ (ap status same
+        ∙ gone.1) in absurd cc) l.to;
   }
 
   -- The link of a record that is neither free nor private. Of a record in hand it may lead where the frontier word of the chain
@@ -38,10 +39,12 @@ module _ {W : Type 0} (sides : ℕ) (z : Sizes) (words : List ℕ) (of : ℕ →
       let scope : (p < z.passes) × (j < 4) = subst (IsStateIn z) is (numbers.scope n number) in record {
         small = h.small;
         to = λ valid. ⊎_elim inl
-            (λ (t : IsNumber z (target w) × ((status (target w) ≡ in_hand p j) ⊎ ((target w ≡ frontier_word words z p j) × IsUsed (status (target w))))). inr (
+            (λ (t : IsNumber z (target w) × ((status (target w) ≡ in_hand p j) ⊎ ((target w ≡ frontier_word words z p j) × IsUsed
+            (status (target w))))). inr (
               t.0,
               ⊎_elim
-                  (λ (e : status (target w) ≡ in_hand p j). subst IsUsed (sym e) tt) (λ (u : (target w ≡ frontier_word words z p j) × IsUsed (status (target w))). u.1) t.1,
+                  (λ (e : status (target w) ≡ in_hand p j). subst IsUsed (sym e) tt) (λ (u :
+                  (target w ≡ frontier_word words z p j) × IsUsed (status (target w))). u.1) t.1,
             )) (h.to valid);
         unscanned = λ valid r m low i read. let pass : p < z.passes = scope.0 in let word : j < 4 = scope.1 in
             s.fronts r m p j n side low i (omega arith) number lt is valid;
@@ -54,15 +57,19 @@ module _ {W : Type 0} (sides : ℕ) (z : Sizes) (words : List ℕ) (of : ℕ →
 
 module _ {E A W : Type 0} (sides : ℕ) (z : Sizes) (words : List ℕ) (g : PoolState E A W) where
   -- the word of a source
-  pub source_sound : (q : PassState W) (place : ℕ) → Base sides z words g → q.number < z.passes → g.of q.number ≡ q → IsSource sides z q place
+  pub source_sound : (q : PassState W) (place : ℕ) → Base sides z words g → q.number < z.passes → g.of q.number ≡ q
+      → IsSource sides z q place
       → Sound z g.of g.status (get_or words place 0)
   unfolding cell_word head_word
   source_sound q place b pass is source = ⊎_elim
       (λ (s : (h : ℕ) × ((h < z.heads) × (place ≡ head_place z h))). subst (λ (k : ℕ). Sound z g.of g.status (get_or words k 0)) (sym s.1.1)
       (leads_sound sides z words g.of g.status (get_or words (head_place z s.0) 0) b.scans (b.links.heads s.0 s.1.0)))
-      (λ (s : (j : ℕ) × ((side : ℕ) × ((j < 5) × (side < sides) × ((slot q j).held ≡ true) × (place ≡ cell_place z (slot q j).named (2 + side))))).
-      let held : Held z words g.status (slot q s.0) = subst (λ (v : PassState W). (slot v s.0).held ≡ true → Held z words g.status (slot v s.0)) is
+      (λ (s : (j : ℕ) × ((side : ℕ) × ((j < 5) × (side < sides) × ((slot q j).held ≡ true) × (place ≡ cell_place z (slot q j).named
+      (2 + side))))).
+      let held : Held z words g.status (slot q s.0) = subst (λ (v : PassState W). (slot v s.0).held ≡ true
+      → Held z words g.status (slot v s.0)) is
       (b.hazards.held q.number s.0 pass s.1.1.0) s.1.1.2 in
       subst (λ (k : ℕ). Sound z g.of g.status (get_or words k 0)) (sym s.1.1.3)
-      (used_sound sides z words g.of g.status (slot q s.0).named s.1.0 (g.status (slot q s.0).named) refl held.used b.numbers b.links b.scans held.number s.1.1.1))
+      (used_sound sides z words g.of g.status (slot q s.0).named s.1.0 (g.status
+      (slot q s.0).named) refl held.used b.numbers b.links b.scans held.number s.1.1.1))
       source

@@ -53,7 +53,8 @@ module _ {E A W : Type 0} where
             (λ (c : (j ≢ id) × (get_elem? views j ≡ some u)). others t.seat_of j u c.0 (t.each_seat j u c.1) seat)
             (at_set views id j w u is);
         last = (id, (w, set_here views id w (at_below views id v at), refl));
-        made = λ m i. ⊎_elim (t.made m) (λ (last : IsIn m (s ∷ [])). subst (λ (m : LoggedStep E A). m.entry.pass < z.passes) (in_one m s last)
+        made = λ m i. ⊎_elim (t.made m) (λ (last : IsIn m (s ∷ [])). subst (λ (m : LoggedStep E A). m.entry.pass < z.passes)
+            (in_one m s last)
             (subst (λ (p : ℕ). p < z.passes) (sym pass) low)) (in_either m g.order (s ∷ []) i);
       }
     where
@@ -79,13 +80,18 @@ module _ {E A W : Type 0} where
             };
       }
 
-  pub runs_after : (opens words : List ℕ) (order : List (LoggedStep E A)) (known : PassState W) (kind place word left : ℕ) (changes : List E) (placed : List A)
+  pub runs_after : (opens words : List ℕ) (order : List (LoggedStep E A)) (known : PassState W) (kind place word left : ℕ)
+      (changes : List E) (placed : List A)
       → Runs opens words order → (stores kind ≡ false → word ≡ get_or words place 0) → (stores kind ≡ true → word ≡ left)
       → Runs opens (set words place left) (order ++ entry kind place word left changes placed order known ∷ [])
   runs_after opens words order known kind place word left changes placed r found stored =
       let s : LoggedStep E A = entry kind place word left changes placed order known in record {
         leaves = replayed_more opens order s ∙ ap (λ (ws : List ℕ). set ws place left) r.leaves;
-        finds = run_more opens order s r.finds record { found = λ no. found no ∙ ap (λ (ws : List ℕ). get_or ws place 0) (sym r.leaves); wrote = stored } refl;
+        finds = run_more opens order s r.finds record {
+          found = λ no. found no
+              ∙ ap (λ (ws : List ℕ). get_or ws place 0) (sym r.leaves);
+          wrote = stored;
+        } refl;
       }
 
 module _ {E A W : Type 0} (sides : ℕ) (opens : Sizes → List ℕ) (addition : Sizes → List ℕ → PoolState E A W → Type 0) where
@@ -116,7 +122,8 @@ module _ {E A W : Type 0} (sides : ℕ) (opens : Sizes → List ℕ) (addition :
       → ((n : ℕ) → stores (kind n) ≡ false → noted n ≡ n) → ((n : ℕ) → stores (kind n) ≡ true → noted n ≡ change n)
       → ((words : List ℕ) (g : PoolState E A W) → Base sides z words g → addition z words g → me.0.known.number < z.passes
       → g.of me.0.known.number ≡ me.0.known → me.0.known.sizes ≡ z → get_or words place 0 < 18446744073709551616
-      → Plays (kind (get_or words place 0)) place (noted (get_or words place 0)) (change (get_or words place 0)) z words g me.0 (then (get_or words place 0)))
+      → Plays (kind (get_or words place 0)) place (noted (get_or words place 0)) (change (get_or words place 0)) z words g me.0 (then
+      (get_or words place 0)))
       → Allows (Holds sides opens addition z) slots id me place change then
   allows_by z slots id place kind me change noted then lone found stored each =
       subst (λ (c : List (ℕ × Unit)). Allows (Holds sides opens addition z) slots id (me.0, c) place change then) (sym lone.0)
@@ -135,7 +142,8 @@ module _ {E A W : Type 0} (sides : ℕ) (opens : Sizes → List ℕ) (addition :
         record {
           pool = after_step g did.known did.status e;
           ties = ties_after z s.views g id v did.known did.status e h.ties at lone.1 did.keeps_rule.number did.keeps_rule.sizes refl;
-          runs = runs_after (opens z) s.words g.order did.known (kind n) place (noted n) (change n) did.changes did.placed h.runs (found n) (stored n);
+          runs = runs_after (opens z) s.words g.order did.known (kind n) place (noted n) (change n) did.changes did.placed h.runs
+              (found n) (stored n);
           base = did.keeps_rule.base;
           added = did.keeps_rule.added;
         },
@@ -150,4 +158,5 @@ module _ {E A W : Type 0} (sides : ℕ) (opens : Sizes → List ℕ) (addition :
       → g.of me.0.known.number ≡ me.0.known → me.0.known.sizes ≡ z → get_or words place 0 < 18446744073709551616
       → Plays kind place (noted (get_or words place 0)) (change (get_or words place 0)) z words g me.0 (then (get_or words place 0)))
       → Allows (Holds sides opens addition z) slots id me place change then
-  allows z slots id place kind me change noted then lone found stored each = allows_by z slots id place (λ _. kind) me change noted then lone found stored each
+  allows z slots id place kind me change noted then lone found stored each = allows_by z slots id place
+      (λ _. kind) me change noted then lone found stored each

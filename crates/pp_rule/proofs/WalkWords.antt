@@ -28,7 +28,8 @@ module _ {W : Type 0} where
 module _ {E A W : Type 0} (sides : ℕ) (z : Sizes) where
   -- The walk word i of a pass reads as the slot w, and every other hazard word as it was. Where w is held, the record meets
   -- what is asked of held records, and no scan that has read the word still has it.
-  base_walk : (words new : List ℕ) (g : PoolState E A W) (q' : PassState W) (i : ℕ) (w : WalkSlot) (s : LoggedStep E A) → Base sides z words g
+  base_walk : (words new : List ℕ) (g : PoolState E A W) (q' : PassState W) (i : ℕ) (w : WalkSlot) (s : LoggedStep E A)
+      → Base sides z words g
       → SameContent z words new → q'.number < z.passes → i < 5 → WalkSet i w (g.of q'.number) q'
       → ((r j : ℕ) → r < z.passes → j < 4 → frontier_word new z r j ≡ frontier_word words z r j)
       → ((r j : ℕ) → r < z.passes → j < 5 → ((r ≡ q'.number) × (j ≡ i) → ⊥) → walk_word new z r j ≡ walk_word words z r j)
@@ -65,12 +66,14 @@ module _ {E A W : Type 0} (sides : ℕ) (z : Sizes) where
       let low : q'.number < z.passes = subst (λ (p : ℕ). p < z.passes) (sym is_set.number) pass in
       let stored = walk_stored z words n b.wide q'.number i low lt in
       subst (λ (p : ℕ). Base sides z (set words (walk_place z p i) n) (after_step g q' g.status s)) is_set.number
-      (base_walk words (set words (walk_place z q'.number i) n) g q' i (naming n) s b (walk_content z words (walk_place z q'.number i) n q'.number i stored) low lt
+      (base_walk words (set words (walk_place z q'.number i) n) g q' i (naming n) s b (walk_content z words
+      (walk_place z q'.number i) n q'.number i stored) low lt
       (subst (λ (v : PassState W). WalkSet i (naming n) v q') (sym (ap g.of is_set.number ∙ is)) is_set)
       stored.frontiers stored.walks stored.here (λ bad. absurd (false≢true bad)) (λ bad. absurd (false≢true bad)))
 
   -- More is known of the record that the walk word i names: no word changes.
-  pub base_walk_learnt : (words : List ℕ) (g : PoolState E A W) (q q' : PassState W) (i : ℕ) (w : WalkSlot) (s : LoggedStep E A) → Base sides z words g
+  pub base_walk_learnt : (words : List ℕ) (g : PoolState E A W) (q q' : PassState W) (i : ℕ) (w : WalkSlot) (s : LoggedStep E A)
+      → Base sides z words g
       → q.number < z.passes → g.of q.number ≡ q → i < 5 → WalkSet i w q q' → w.named ≡ (slot q i).named
       → (w.held ≡ true → Held z words g.status w) → (w.held ≡ true → Unscanned z g.of q.number q i w.named)
       → Base sides z words (after_step g q' g.status s)
@@ -91,11 +94,13 @@ module _ {E A W : Type 0} (sides : ℕ) (opens : Sizes → List ℕ) (addition :
   announces alike z slots id place i n me lone lt free at = let q : PassState W = me.0.known in
       let q' : PassState W = with_walk i (naming n) q in
       allows sides opens addition z slots id place announce_step me (λ _. n) (λ _. n)
-      (λ _ m'. (m'.1 ≡ []) × MadeQuietStep announce_step place n n q' me.0 m'.0) lone (λ m bad. absurd (false≢true (sym bad))) (λ m yes. refl)
+      (λ _ m'. (m'.1 ≡ []) × MadeQuietStep announce_step place n n q' me.0 m'.0) lone (λ m bad. absurd (false≢true (sym bad)))
+      (λ m yes. refl)
       (λ words g b add pass is sizes fits.
       let e : LoggedStep E A = entry announce_step place n n [] [] g.order q' in
       let new : List ℕ = set words place n in
-      let b' : Base sides z new (after_step g q' g.status e) = subst (λ (k : ℕ). Base sides z (set words k n) (after_step g q' g.status e)) (sym at)
+      let b' : Base sides z new (after_step g q' g.status e) = subst (λ (k : ℕ). Base sides z (set words k n)
+      (after_step g q' g.status e)) (sym at)
       (base_walk_stored sides z words g q q' i n e b pass is lt (walk_set i (naming n) q)) in
       let content : SameContent z words new = subst (λ (k : ℕ). SameContent z words (set words k n)) (sym at)
       (walk_content z words (walk_place z q.number i) n q.number i (walk_stored z words n b.wide q.number i pass lt)) in record {
@@ -107,14 +112,20 @@ module _ {E A W : Type 0} (sides : ℕ) (opens : Sizes → List ℕ) (addition :
           number = refl;
           sizes = sizes;
           base = b';
-          added = alike z words new g (after_step g q' g.status e) b b' (looks_after sides z words new g q' e (content_used z g.status words new content) refl refl
-              record { own = sym (ap (λ v. v.own) is); holds = subst (λ (v : PassState W). HoldsOn v q') (sym is) (holds_on_free q q' i (naming n) refl free) }) add;
+          added = alike z words new g (after_step g q' g.status e) b b' (looks_after sides z words new g q' e
+              (content_used z g.status words new content) refl refl
+              record {
+                own = sym (ap (λ v. v.own) is);
+                holds = subst (λ (v : PassState W). HoldsOn v q') (sym is)
+                    (holds_on_free q q' i (naming n) refl free);
+              }) add;
         };
         tells = λ v is_now made. (refl, made);
       })
 
   -- A walk word may be cleared, and the shape's part forgets it.
-  pub clears_word : (forget : ℕ → W → W) → KeptCleared sides addition forget → (z : Sizes) (slots id place i : ℕ) (me : Me Unit (SeatView E A W)) → IsAlone me
+  pub clears_word : (forget : ℕ → W → W) → KeptCleared sides addition forget
+      → (z : Sizes) (slots id place i : ℕ) (me : Me Unit (SeatView E A W)) → IsAlone me
       → i < 5 → place ≡ walk_place z me.0.known.number i
       → Allows (Holds sides opens addition z) slots id me place (λ _. 0)
       (λ _ m'. (m'.1 ≡ []) × MadeQuietStep clear_step place 0 0 (clearing forget i me.0.known) me.0 m'.0)
@@ -126,7 +137,8 @@ module _ {E A W : Type 0} (sides : ℕ) (opens : Sizes → List ℕ) (addition :
       let e : LoggedStep E A = entry clear_step place 0 0 [] [] g.order q' in
       let new : List ℕ = set words place 0 in
       let is_set : WalkSet i (naming 0) q q' = record { number = refl; sizes = refl; owned = refl; retired_are = refl; frontier = refl; chains = refl; scan = refl; walk = refl } in
-      let b' : Base sides z new (after_step g q' g.status e) = subst (λ (k : ℕ). Base sides z (set words k 0) (after_step g q' g.status e)) (sym at)
+      let b' : Base sides z new (after_step g q' g.status e) = subst (λ (k : ℕ). Base sides z (set words k 0)
+      (after_step g q' g.status e)) (sym at)
       (base_walk_stored sides z words g q q' i 0 e b pass is lt is_set) in
       let content : SameContent z words new = subst (λ (k : ℕ). SameContent z words (set words k 0)) (sym at)
       (walk_content z words (walk_place z q.number i) 0 q.number i (walk_stored z words 0 b.wide q.number i pass lt)) in
@@ -153,10 +165,12 @@ module _ {E A W : Type 0} (sides : ℕ) (opens : Sizes → List ℕ) (addition :
       → Allows (Holds sides opens addition z) slots id me place (λ n. n) (λ n m'. (m'.1 ≡ []) × ReadField i field n place me.0 m'.0)
   unfolding cell_word
   reads_field alike z slots id place i field me lone lt on at = let q : PassState W = me.0.known in
-      allows sides opens addition z slots id place read_step me (λ n. n) (λ n. n) (λ n m'. (m'.1 ≡ []) × ReadField i field n place me.0 m'.0)
+      allows sides opens addition z slots id place read_step me (λ n. n) (λ n. n) (λ n m'.
+      (m'.1 ≡ []) × ReadField i field n place me.0 m'.0)
       lone (λ m no. refl) (λ m bad. absurd (false≢true bad))
       (λ words g b add pass is sizes fits.
-      let held : Held z words g.status (slot q i) = subst (λ (v : PassState W). (slot v i).held ≡ true → Held z words g.status (slot v i)) is
+      let held : Held z words g.status (slot q i) = subst (λ (v : PassState W). (slot v i).held ≡ true
+      → Held z words g.status (slot v i)) is
       (b.hazards.held q.number i pass lt) on in record {
         known = q;
         status = g.status;

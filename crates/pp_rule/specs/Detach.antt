@@ -20,7 +20,8 @@ pub record IsFreeLink {E A W : Type 0} (z : Sizes) (g : PoolState E A W) (place 
 
 -- The records of the chain c are attached, only the link at this place leads to them from outside, and they lead to nil, to
 -- each other and to the record x. The word `new` leads to x.
-pub record Detaches {E A W : Type 0} (sides : ℕ) (z : Sizes) (words : List ℕ) (g : PoolState E A W) (q : PassState W) (c : Chain) (place x new : ℕ) : Type 0 where
+pub record Detaches {E A W : Type 0} (sides : ℕ) (z : Sizes) (words : List ℕ) (g : PoolState E A W) (q : PassState W) (c : Chain)
+    (place x new : ℕ) : Type 0 where
   pub members : (n : ℕ) → IsIn n c.records → IsNumber z n × (g.status n ≡ attached)
   pub members_once : Once c.records
   pub inside : (n side : ℕ) → IsIn n c.records → side < sides → (target (cell_word words z n (2 + side)) ≡ 0)

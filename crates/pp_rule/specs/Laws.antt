@@ -38,7 +38,8 @@ module _ {E A W : Type 0} (sides : ℕ) (addition : Sizes → List ℕ → PoolS
 
   -- so does a step that clears a walk word
   abbrev pub KeptCleared : (ℕ → W → W) → Type 0
-  KeptCleared forget = (z : Sizes) (words words' : List ℕ) (g g' : PoolState E A W) (p i : ℕ) → Base sides z words g → Base sides z words' g'
+  KeptCleared forget = (z : Sizes) (words words' : List ℕ) (g g' : PoolState E A W) (p i : ℕ) → Base sides z words g
+      → Base sides z words' g'
       → Cleared forget z words words' g g' p i → addition z words g → addition z words' g'
 
   -- so does an or-step that sets INVALID in a link of a record in hand
@@ -55,7 +56,8 @@ module _ {E A W : Type 0} (sides : ℕ) (addition : Sizes → List ℕ → PoolS
 
     -- and that keeps the addition
     abbrev pub KeptDetached : Type 0
-    KeptDetached = (z : Sizes) (words : List ℕ) (g g' : PoolState E A W) (q : PassState W) (place guard first new : ℕ) → Base sides z words g
+    KeptDetached = (z : Sizes) (words : List ℕ) (g g' : PoolState E A W) (q : PassState W) (place guard first new : ℕ)
+        → Base sides z words g
         → Base sides z (slice_set words place new) g' → q.number < z.passes → g.of q.number ≡ q → may_detach z q place guard first new
         → slice_index words place ≡ first → Detaches sides z words g q (chain q guard first new) place (target new) new
         → Detached z g g' q (chain q guard first new) → addition z words g → addition z (slice_set words place new) g'
@@ -63,6 +65,8 @@ module _ {E A W : Type 0} (sides : ℕ) (addition : Sizes → List ℕ → PoolS
   -- What a closed pool tells: its live numbers, its contents, and the placed calls of each pass.
   abbrev pub Closes : (Sizes → List ℕ → List ℕ) → (ℕ → ℕ) → (Sizes → List ℕ → List Pair) → (Sizes → List E → List Pair → Type 0)
       → (Sizes → List E → ℕ → List A → Type 0) → Type 0
-  Closes alive live_count pairs tells tells_pass = (z : Sizes) (words : List ℕ) (g : PoolState E A W) → Base sides z words g → addition z words g
-      → Gathers z (alive z words) × (length (alive z words) ≡ live_count (length (pairs z words))) × tells z (log_of g.order) (pairs z words)
+  Closes alive live_count pairs tells tells_pass = (z : Sizes) (words : List ℕ) (g : PoolState E A W) → Base sides z words g
+      → addition z words g
+      → Gathers z (alive z words) × (length (alive z words) ≡ live_count (length (pairs z words))) × tells z (log_of g.order)
+      (pairs z words)
       × ((p : ℕ) → p < z.passes → tells_pass z (log_of g.order) p (placed_by p g.order))

@@ -81,7 +81,8 @@ pub record Leads (z : Sizes) (status : ℕ → RecordState) (w : ℕ) : Type 0 w
 pub record Leaves (z : Sizes) (words : List ℕ) (status : ℕ → RecordState) (p j w : ℕ) : Type 0 where
   pub small : IsSmall w
   pub to : invalid_bit w ≡ 0 → (target w ≡ 0)
-      ⊎ (IsNumber z (target w) × ((status (target w) ≡ in_hand p j) ⊎ ((target w ≡ frontier_word words z p j) × IsUsed (status (target w)))))
+      ⊎ (IsNumber z (target w) × ((status (target w) ≡ in_hand p j) ⊎ ((target w ≡ frontier_word words z p j) × IsUsed (status
+      (target w)))))
 
 -- A held record is neither free nor private. It has the key and the value that it was published with, and the frozen links
 -- that were learnt of it, but perhaps for INVALID.

@@ -64,7 +64,8 @@ module _ {E A W : Type 0} where
 
   -- The view of a pass before and after one step of this kind on the word at this place, which found (or stored) `word` and
   -- left `left`. The steps of all passes so far begin with those that the pass had seen.
-  pub record MadeStep (kind place word left : ℕ) (changes : List E) (placed : List A) (known : PassState W) (before after : SeatView E A W) : Type 0 where
+  pub record MadeStep (kind place word left : ℕ) (changes : List E) (placed : List A) (known : PassState W)
+      (before after : SeatView E A W) : Type 0 where
     pub so_far : List (LoggedStep E A)
     pub begins : BeginsWith so_far before.order
     -- no other step of this pass came between
@@ -98,7 +99,8 @@ module _ {W : Type 0} where
   -- the place of a link of a head, or of a record that the pass holds
   abbrev pub IsSource : ℕ → Sizes → PassState W → ℕ → Type 0
   IsSource sides z q place = ((h : ℕ) × ((h < z.heads) × (place ≡ head_place z h)))
-      ⊎ ((j : ℕ) × ((side : ℕ) × ((j < 5) × (side < sides) × ((slot q j).held ≡ true) × (place ≡ cell_place z (slot q j).named (2 + side)))))
+      ⊎ ((j : ℕ) × ((side : ℕ) × ((j < 5) × (side < sides) × ((slot q j).held ≡ true) × (place ≡ cell_place z (slot q j).named
+      (2 + side)))))
 
   -- the frozen word of this side is learnt of the record that is held in the word j
   abbrev pub learning : (ℕ → Bool) → ℕ → ℕ → ℕ → PassState W → PassState W
