@@ -5,9 +5,11 @@ pub mod hazards;
 pub mod pool;
 pub mod private;
 pub mod purse;
+pub mod row;
 pub mod source;
 pub mod steps;
 
 pub use pool::{Pass, Pool};
 pub use purse::{InHand, Purse};
+pub use row::RowShape;
 pub use source::{Place, Side};
