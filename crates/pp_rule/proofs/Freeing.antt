@@ -1,5 +1,5 @@
 -- A reclaim pass reads its last hazard word: what no hazard word named is free.
-use Rattle.std.proofs.Common.{◌≡◌, ◌≢◌, ◌⊎◌, ℕ, ◌+◌, ◌-◌, ◌*◌, ◌<◌, ◌≤◌, true, List, [], ◌∷◌, ◌++◌, map, length, get_or, refl}
+use Rattle.std.proofs.Common.{◌≡◌, ◌≢◌, ◌⊎◌, ℕ, ◌+◌, ◌-◌, ◌*◌, ◌<◌, true, List, [], ◌∷◌, ◌++◌, map, length, get_or, refl}
 use Rattle.std.proofs.Common.{sym, ap, ◌∙◌, subst, inl, inr, ⊎_elim, arith}
 use Rattle.std.proofs.Math.Bool.{false≢true}
 use Rattle.std.proofs.Math.Decide.{ℕ_discrete}
@@ -13,7 +13,7 @@ use Rattle.pp_rule.specs.Lists.{IsIn, OnceBy, Once, without}
 use Rattle.pp_rule.specs.Orders.{LoggedStep, scan_walk_step}
 use Rattle.pp_rule.specs.Views.{WalkSlot, PrivateRecord, PassState, SeatView, slot}
 use Rattle.pp_rule.specs.States.{RecordState, attached, in_hand, retired, owned, shelved, IsUsed, IsLinked, IsStateIn, PoolState}
-use Rattle.pp_rule.specs.States.{Leads, Leaves, Held}
+use Rattle.pp_rule.specs.States.{Leads, Held}
 use Rattle.pp_rule.specs.Rule.{Reads, number_of, Numbers, Hazards, Links, Chains, Base}
 use Rattle.pp_rule.specs.Ties.{Holds}
 use Rattle.pp_rule.specs.Steps.{entry, IsAlone, still, scanned, reclaimed, Reclaimed}
@@ -262,7 +262,8 @@ module _ {E A W : Type 0} (sides : ℕ) (z : Sizes) (words : List ℕ) (g : Pool
             (subst (λ (w : WalkSlot). w.held ≡ true) (sym (slots r i)) on) (subst (λ (w : WalkSlot). w.named ≡ n) (sym (slots r i)) same);
       }
 
-  -- The reclaim pass read its last word. What is left is free with the pass.
+  -- The reclaim pass read its last word. What is left is free with the pass. The last load alone keeps the facts with all words
+  -- read, so nothing holds a freed record and no link of a record in hand leads to it; and it was retired, so no other link does.
   pub base_freed : Base sides z words g → q.number < z.passes → g.of q.number ≡ q → q.scan.read + 1 ≡ 9 * z.passes → (s : LoggedStep E A)
       → Base sides z words (after_step g (reclaimed last_word freed_records q) (freeing q.number unnamed g.status) s)
   base_freed b pass is full s =

@@ -1,23 +1,22 @@
 -- The rule holds of a pool as it opens.
-use Rattle.std.proofs.Common.{◌≡◌, ◌≢◌, ◌⊎◌, ℕ, zero, suc, ◌+◌, ◌-◌, ◌*◌, ◌<◌, ◌≤◌, Bool, true, false, cond, leb, List, [], ◌∷◌, length}
+use Rattle.std.proofs.Common.{◌≡◌, ◌≢◌, ◌⊎◌, ℕ, suc, ◌+◌, ◌-◌, ◌<◌, ◌≤◌, Bool, cond, leb, List, [], ◌∷◌, length}
 use Rattle.std.proofs.Common.{refl, sym, ap, ◌∙◌, subst}
 use Rattle.std.proofs.Common.{inl, inr, ⊎_elim, arith, le-leb, leb-true, leb-false}
 use Rattle.std.proofs.lemmas.Bool.{lt-leb}
 use Rattle.std.proofs.Math.Bool.{false≢true}
-use mathlib.Core.Option.{some, some-ne-none, some-injective}
+use mathlib.Core.Option.{some-injective}
 use lib.ListN.{get_elem?}
 use Rattle.atomic_table.specs.Table.{opening}
 use Rattle.pp_link.specs.declared.layout.Sizes.{Sizes}
 use Rattle.pp_link.specs.Links.{target}
 use Rattle.pp_link.specs.Places.{IsWithin, IsNumber}
-use Rattle.pp_link.specs.Words.{cell_word, head_word}
 use Rattle.pp_rule.specs.Lists.{IsIn, Once, OnceBy}
 use Rattle.pp_rule.specs.Orders.{entries_of}
 use Rattle.pp_rule.specs.Views.{WalkSlot, blank, PrivateRecord, PassState, SeatView, slot, guarding}
 use Rattle.pp_rule.specs.States.{RecordState, attached, in_hand, retired, owned, shelved, IsStateIn, PoolState, Leads}
-use Rattle.pp_rule.specs.Rule.{Reads, number_of, Numbers, PrivateWords, Hazards, Links, Shelves, Chains, Scans, Base}
-use Rattle.pp_rule.specs.Ties.{pass_number, TiedPass, Tied, Ties, Runs, Holds}
-use Rattle.pp_rule.specs.Opening.{opening_words, start_of, share_of, records_from, dealt, dealt_from, first_view, OpensInto, IsOpening}
+use Rattle.pp_rule.specs.Rule.{Reads, number_of, Numbers, Base}
+use Rattle.pp_rule.specs.Ties.{TiedPass, Tied, Ties, Runs, Holds}
+use Rattle.pp_rule.specs.Opening.{opening_words, start_of, share_of, records_from, dealt, first_view, OpensInto}
 use Rattle.pp_rule.specs.Laws.{HeadsOpen, LinksOpen, MetAtOpening}
 use Rattle.pp_rule.proofs.Put.{in_nil, only}
 use Rattle.pp_rule.proofs.OpeningWords.{each_replicate, opening_wide, opening_walk, opening_frontier, opening_shelf, opening_head}
@@ -181,6 +180,8 @@ module _ {E A W : Type 0} (sides sentinels : ℕ) (head : ℕ → ℕ) (field : 
   abbrev pub opened_pool : PoolState E A W
   opened_pool = record { of = dealt sentinels own z; order = []; status = opening_state sentinels z }
 
+  -- The facts of every pool as it opens: no record is in hand or retired, no hazard word names one, and the links of heads and
+  -- sentinels lead to nil or to sentinels.
   pub base_open : sides ≤ 2 → IsWithin z → sentinels ≤ z.records → HeadsOpen sentinels head → LinksOpen sides sentinels field
       → Base sides z (opening_words sentinels head field z) opened_pool
   base_open two within most heads links =

@@ -1,6 +1,6 @@
 -- A reclaim pass reads a hazard word: the numbers that it named are no longer left.
-use Rattle.std.proofs.Common.{◌≡◌, ◌≢◌, ◌⊎◌, ℕ, ◌+◌, ◌*◌, ◌<◌, ◌≤◌, Bool, true, false, cond, List, [], length, get_or, refl, sym, ap}
-use Rattle.std.proofs.Common.{◌∙◌, subst, inl, inr, ⊎_elim, arith, eq-eqb, ne_eqb}
+use Rattle.std.proofs.Common.{◌≡◌, ◌≢◌, ◌⊎◌, ℕ, ◌+◌, ◌*◌, ◌<◌, ◌≤◌, Bool, true, cond, List, [], length, get_or, refl, sym, ap}
+use Rattle.std.proofs.Common.{◌∙◌, subst, ⊎_elim, arith, eq-eqb, ne_eqb}
 use Rattle.std.proofs.Math.Bool.{false≢true}
 use Rattle.std.proofs.Math.Decide.{ℕ_discrete}
 use mathlib.Core.Logic.{dite}
@@ -9,11 +9,11 @@ use Rattle.pp_link.specs.declared.layout.Sizes.{Sizes}
 use Rattle.pp_link.specs.Links.{target, invalid_bit}
 use Rattle.pp_link.specs.Places.{IsNumber, walk_place, frontier_place}
 use Rattle.pp_link.specs.Words.{walk_word, frontier_word, cell_word}
-use Rattle.pp_rule.specs.Lists.{IsIn, Once, without}
+use Rattle.pp_rule.specs.Lists.{IsIn, Once}
 use Rattle.pp_rule.specs.Orders.{LoggedStep, scan_frontier_step, scan_walk_step}
 use Rattle.pp_rule.specs.Views.{WalkSlot, PassState, SeatView, slot}
 use Rattle.pp_rule.specs.States.{in_hand, retired, IsUsed, IsStateIn, PoolState, Held}
-use Rattle.pp_rule.specs.Rule.{Scans, Base}
+use Rattle.pp_rule.specs.Rule.{Base}
 use Rattle.pp_rule.specs.Ties.{Holds}
 use Rattle.pp_rule.specs.Steps.{entry, IsAlone, MadeQuietStep, still, scanned}
 use Rattle.pp_rule.specs.Laws.{KeptAlike}
@@ -62,7 +62,6 @@ module _ {E A W : Type 0} (sides : ℕ) (z : Sizes) (words : List ℕ) (g : Pool
       let p : ℕ = q.number in
       let q' : PassState W = scanned found q in
       let used : SameUsed z g.status words words = content_used z g.status words words (same_content z words) in
-      let were : g.of p ≡ q = is in
       let slots : (r i : ℕ) → slot (put g.of p q' r) i ≡ slot (g.of r) i =
       λ r i. put_each (λ (r : ℕ) (v : PassState W). slot v i ≡ slot (g.of r) i) g.of p q' (ap (λ (v : PassState W). slot v i)
       (sym is)) (λ r other. refl) r in
