@@ -262,7 +262,8 @@ module _ {E A W : Type 0} (sides : ℕ) (z : Sizes) (words : List ℕ) (g : Pool
             (subst (λ (w : WalkSlot). w.held ≡ true) (sym (slots r i)) on) (subst (λ (w : WalkSlot). w.named ≡ n) (sym (slots r i)) same);
       }
 
-  -- The reclaim pass read its last word. What is left is free with the pass.
+  -- The reclaim pass read its last word. What is left is free with the pass. The last load alone keeps the facts with all words
+  -- read, so nothing holds a freed record and no link of a record in hand leads to it; and it was retired, so no other link does.
   pub base_freed : Base sides z words g → q.number < z.passes → g.of q.number ≡ q → q.scan.read + 1 ≡ 9 * z.passes → (s : LoggedStep E A)
       → Base sides z words (after_step g (reclaimed last_word freed_records q) (freeing q.number unnamed g.status) s)
   base_freed b pass is full s =

@@ -180,6 +180,8 @@ module _ {E A W : Type 0} (sides sentinels : ℕ) (head : ℕ → ℕ) (field : 
   abbrev pub opened_pool : PoolState E A W
   opened_pool = record { of = dealt sentinels own z; order = []; status = opening_state sentinels z }
 
+  -- The facts of every pool as it opens: no record is in hand or retired, no hazard word names one, and the links of heads and
+  -- sentinels lead to nil or to sentinels.
   pub base_open : sides ≤ 2 → IsWithin z → sentinels ≤ z.records → HeadsOpen sentinels head → LinksOpen sides sentinels field
       → Base sides z (opening_words sentinels head field z) opened_pool
   base_open two within most heads links =

@@ -62,7 +62,6 @@ module _ {E A W : Type 0} (sides : ℕ) (z : Sizes) (words : List ℕ) (g : Pool
       let p : ℕ = q.number in
       let q' : PassState W = scanned found q in
       let used : SameUsed z g.status words words = content_used z g.status words words (same_content z words) in
-      let were : g.of p ≡ q = is in
       let slots : (r i : ℕ) → slot (put g.of p q' r) i ≡ slot (g.of r) i =
       λ r i. put_each (λ (r : ℕ) (v : PassState W). slot v i ≡ slot (g.of r) i) g.of p q' (ap (λ (v : PassState W). slot v i)
       (sym is)) (λ r other. refl) r in

@@ -139,6 +139,7 @@ module _ {E A W : Type 0} (sides : ℕ) (opens : Sizes → List ℕ) (addition :
     kept = λ o m. absurd (in_nil o m);
   }
 
+  -- The seat of the pass is the new one, and no other pass has another seat, since the view had each pass once.
   deals_first : (id : ℕ) (order : List (LoggedStep E A)) (known q : PassState W) (qs : List (PassState W))
       → Splits (Holds sides opens addition z) id (several order known (q ∷ qs)) (several order q qs) (alone order known)
   deals_first id order known q qs s h at =
@@ -211,6 +212,8 @@ module _ {E A W : Type 0} (sides : ℕ) (opens : Sizes → List ℕ) (addition :
   deals id v q qs is = subst (λ (u : SeatView E A W). Splits (Holds sides opens addition z) id u (kept_part u) (dealt_part u)) (sym is)
       (deals_first id v.order v.known q qs)
 
+  -- The seats of the other's passes become the first one's. Both orders begin that of all steps, so the longer one begins with the
+  -- other, and has all steps of the passes of both.
   joins_alone : (id other : ℕ) (order : List (LoggedStep E A)) (known nobody : PassState W) (w : SeatView E A W) → w.standing ≡ true
       → Joins (Holds sides opens addition z) id (alone order known) other w (both_parts (alone order known) w) (spent_part nobody)
   unfolding taking
@@ -234,9 +237,7 @@ module _ {E A W : Type 0} (sides : ℕ) (opens : Sizes → List ℕ) (addition :
       let own : now known.number ≡ id = stays id (λ same. differ (sym same)) known.number here in
       let w_first : IsIn w.known (all_of w) = subst (λ (l : List (PassState W)). IsIn w.known l) (sym all_w) (in_first w.known w.taken) in
       let taken : TiedPass z g t.seat_of other w.order w.known = tw.each w.known w_first in
-      let lengths : (length (set s.views id both) ≡ length s.views) = length-set s.views id both in
       let deep : id < length s.views = at_below s.views id v at in
-      let deep_other : other < length (set s.views id both) = at_below (set s.views id both) other w at_other in
       let long : List (LoggedStep E A) = longer order w.order in
       let begins : BeginsWith g.order long = longer_begins g.order order w.order tv.begins tw.begins in
       let left : BeginsWith long order = longer_left g.order order w.order tv.begins tw.begins in
@@ -364,7 +365,8 @@ module _ {E A W : Type 0} (sides : ℕ) (opens : Sizes → List ℕ) (addition :
         added = h.added;
       }
 
-  -- The last state where one seat stands for all passes: what it has seen is all that there was.
+  -- The last state where one seat stands for all passes: what it has seen is all that there was, since a step that it hasn't seen
+  -- would be of one of its passes, all of whose steps it has seen.
   pub ended : (id : ℕ) (v : SeatView E A W) (s : State Unit (SeatView E A W)) → Seen (Holds sides opens addition z) id v s
       → ((p : ℕ) → p < z.passes → (q : PassState W) × (IsIn q (all_of v) × (q.number ≡ p))) → IsEnd sides opens addition z v s.words
   ended id v s seen all =
