@@ -1,6 +1,6 @@
 -- A row meets the laws of a shape.
-use Rattle.std.proofs.Common.{◌≡◌, ◌≢◌, ◌⊎◌, inl, inr, ⊎_elim, ℕ, zero, suc, ◌+◌, ◌*◌, ◌/◌, ◌%◌, ◌<◌, ◌≤◌, Bool, true, false, cond, eqb}
-use Rattle.std.proofs.Common.{List, [], ◌∷◌, length, set, get_or, refl, sym, ap, ◌∙◌, subst, arith, ne_eqb}
+use Rattle.std.proofs.Common.{◌≡◌, ◌≢◌, ◌⊎◌, inl, inr, ⊎_elim, ℕ, zero, suc, ◌+◌, ◌<◌, ◌≤◌, Bool, true, false, cond, eqb}
+use Rattle.std.proofs.Common.{List, [], ◌∷◌, set, get_or, refl, sym, ap, ◌∙◌, subst, arith, ne_eqb}
 use Rattle.std.proofs.Math.Bool.{false≢true}
 use Rattle.std.proofs.Math.Decide.{ℕ_discrete}
 use Rattle.std.proofs.lemmas.Bool.{cases_lt}
@@ -18,14 +18,15 @@ use Rattle.pp_rule.specs.declared.views.Chain.{Chain}
 use Rattle.pp_rule.specs.declared.views.ChainLink.{ChainLink}
 use Rattle.pp_rule.specs.declared.views.LoggedStep.{LoggedStep}
 use Rattle.pp_rule.specs.declared.views.PassState.{PassState}
-use Rattle.pp_rule.specs.Views.{slot, guarding}
+use Rattle.pp_rule.specs.Views.{guarding}
 use Rattle.pp_rule.specs.States.{RecordState, attached, in_hand, retired, owned, shelved, IsUsed, IsLinked, PoolState, Stays, SameTarget}
 use Rattle.pp_rule.specs.Rule.{Base}
 use Rattle.pp_rule.specs.Looks.{SameSeen}
 use Rattle.pp_rule.specs.Steps.{IsUnused}
-use Rattle.pp_rule.specs.Detach.{Detaches, Detached, IsFreeLink}
-use Rattle.pp_rule.specs.Opening.{OpensInto, opening_words}
-use Rattle.pp_rule.specs.Laws.{HeadsOpen, LinksOpen, Freezes, MetAtOpening, KeptAlike, KeptCleared, KeptInvalid, MayDetach, KeptDetached, Closes}
+use Rattle.pp_rule.specs.Detach.{Detaches, Detached}
+use Rattle.pp_rule.specs.Opening.{OpensInto}
+use Rattle.pp_rule.specs.Laws.{HeadsOpen, LinksOpen, Freezes, MetAtOpening, KeptAlike, KeptCleared, KeptInvalid}
+use Rattle.pp_rule.specs.Laws.{MayDetach, KeptDetached, Closes}
 use Rattle.pp_rule.proofs.Put.{in_nil, in_cases, in_one}
 use Rattle.pp_rule.proofs.Histories.{quiet_log, quiet_placed}
 use Rattle.pp_base.specs.Row.{row_head, row_link, row_field, has_flag, IsRow, IsWhole, IsCut, row_chain, MayCut}
@@ -138,8 +139,8 @@ abbrev IsLinkOf : Sizes → List ℕ → ChainLink → Type 0
 IsLinkOf z words l = IsIn l.number (1 ∷ 2 ∷ []) × (l.side < 1) × SameTarget l.word (cell_word words z l.number (2 + l.side))
 
 module _ {W : Type 0} where
-  abbrev Chains : PassState W → ℕ → ℕ → ℕ → Chain
-  Chains q guard first new = row_chain q guard first new
+  abbrev FirstTwo : PassState W → ℕ → ℕ → ℕ → Chain
+  FirstTwo q guard first new = row_chain q guard first new
 
   abbrev May : Sizes → PassState W → ℕ → ℕ → ℕ → ℕ → Type 0
   May z q place guard first new = MayCut z q place guard first new
@@ -237,11 +238,13 @@ module _ {E A W : Type 0} where
     where
       left : 2 + side ≡ 2
       left = omega (arith, one_side)
+
       here : (m : ℕ) → m ≡ n → Stays (cell_word words z m 2) (cell_word words' z m 2)
       here m e = subst (λ (k : ℕ). Stays (cell_word words z k 2) (cell_word words' z k 2)) (sym e)
           (subst (λ (f : ℕ). Stays (cell_word words z n f) (cell_word words' z n f)) left i.here)
 
-  pub row_gathers : Closes 1 Adds row_alive row_count row_pairs (λ z log pairs. RowTells z log pairs) (λ z log p placed. RowTellsPass z log p placed)
+  pub row_gathers : Closes 1 Adds row_alive row_count row_pairs
+      (λ z log pairs. RowTells z log pairs) (λ z log p placed. RowTellsPass z log p placed)
   unfolding times
   row_gathers z words g b r = (
     record {
@@ -258,9 +261,13 @@ module _ {E A W : Type 0} where
       one_at_most true = omega arith
       one_at_most false = omega arith
 
-  three_words : (z : Sizes) (words : List ℕ) (g : PoolState E A W) → Base 1 z words g → IsRow z words g → IsWhole z words g → Exactly z words
-  three_words z words g b r w = record { first = word 1 (omega arith) (omega arith) w.first; second = word 2 (omega arith) (omega arith) w.second;
-      last = word 3 (omega arith) (omega arith) r.last }
+  three_words : (z : Sizes) (words : List ℕ) (g : PoolState E A W) → Base 1 z words g → IsRow z words g → IsWhole z words g
+      → Exactly z words
+  three_words z words g b r w = record {
+    first = word 1 (omega arith) (omega arith) w.first;
+    second = word 2 (omega arith) (omega arith) w.second;
+    last = word 3 (omega arith) (omega arith) r.last;
+  }
     where
       word : (n : ℕ) → 1 ≤ n → n ≤ 3 → g.status n ≡ attached → cell_word words z n 2 ≡ row_link n
       word n some_is low is = exact (row_link n) (cell_word words z n 2) (r.links n some_is low (attached_linked (g.status n) is))
@@ -271,9 +278,10 @@ module _ {E A W : Type 0} where
   whole_at z words g r head = ⊎_elim (λ (w : IsWhole z words g). w)
       (λ (c : IsCut z words g). let cut = c.head in absurd (omega arith)) r.row
 
-  -- Both links are as they opened, the head 0 alone leads to the first record, and the record 3 is nil's neighbour.
-  cuts : (z : Sizes) (words : List ℕ) (g : PoolState E A W) (q : PassState W) (guard : ℕ) → Base 1 z words g → IsRow z words g → IsWhole z words g
-      → guard < 4 → guarding q guard ≡ 3 → IsUnused guard q → Detaches 1 z words g q (row_chain q guard 16 48) (head_place z 0) 3 48
+  -- Both links are as they opened, the head 0 alone leads to the first record, and the left link of the record 3 is nil.
+  cuts : (z : Sizes) (words : List ℕ) (g : PoolState E A W) (q : PassState W) (guard : ℕ) → Base 1 z words g → IsRow z words g
+      → IsWhole z words g → guard < 4 → guarding q guard ≡ 3 → IsUnused guard q
+      → Detaches 1 z words g q (row_chain q guard 16 48) (head_place z 0) 3 48
   cuts z words g q guard b r w four named unused = record {
     members = each_of_two (λ n. IsNumber z n × (g.status n ≡ attached))
         ((omega arith, omega (arith, b.within.some_records)), w.first) ((omega arith, omega (arith, b.within.some_records)), w.second);
@@ -304,6 +312,7 @@ module _ {E A W : Type 0} where
     where
       words_are : Exactly z words
       words_are = three_words z words g b r w
+
       inside : (n side : ℕ) → IsIn n (1 ∷ 2 ∷ []) → side < 1 → (target (cell_word words z n (2 + side)) ≡ 0)
           ⊎ (IsIn (target (cell_word words z n (2 + side))) (1 ∷ 2 ∷ []) ⊎ (target (cell_word words z n (2 + side)) ≡ 3))
       inside n (suc side) i one = absurd (omega arith)
@@ -311,12 +320,15 @@ module _ {E A W : Type 0} where
           ⊎ (IsIn (target (cell_word words z m 2)) (1 ∷ 2 ∷ []) ⊎ (target (cell_word words z m 2) ≡ 3)))
           (inr (inl (subst (λ (k : ℕ). IsIn (target k) (1 ∷ 2 ∷ [])) (sym words_are.first) (1, refl))))
           (inr (inr (ap target words_are.second))) n i
+
       valid : (n side : ℕ) → IsIn n (1 ∷ 2 ∷ []) → side < 1 → IsIn {A = ℕ × ℕ} (n, side) ((1, 0) ∷ (2, 0) ∷ [])
       valid n (suc side) i one = absurd (omega arith)
       valid n zero i one = each_of_two (λ m. IsIn {A = ℕ × ℕ} (m, 0) ((1, 0) ∷ (2, 0) ∷ [])) (0, refl) (1, refl) n i
+
       link_of_chain : (l : ChainLink) → IsIn l.number (1 ∷ 2 ∷ []) → l.side < 1 → cell_word words z l.number (2 + l.side) ≡ l.word
           → IsLinkOf z words l
       link_of_chain l i one e = (i, one, record { target_is = ap target e; flag_is = ap flag_bit e; leaf_is = ap leaf_bit e })
+
       others : (n side : ℕ) → IsNumber z n → side < 1 → g.status n ≡ attached → (IsIn n (1 ∷ 2 ∷ []) → ⊥)
           → cell_place z n (2 + side) ≢ head_place z 0 → IsIn (target (cell_word words z n (2 + side))) (1 ∷ 2 ∷ []) → ⊥
       others n (suc side) number one is out ne = absurd (omega arith)
@@ -326,7 +338,7 @@ module _ {E A W : Type 0} where
           (λ no. not_in_two (target (cell_word words z 3 2)) (omega (arith, words_are.last)) (omega (arith, words_are.last)))
           n number.0 (r.no_other n number is) out
 
-  pub row_detaches : MayDetach 1 Adds Chains May
+  pub row_detaches : MayDetach 1 Adds FirstTwo May
   row_detaches z words g q place guard first new b r pass is may same =
       subst (λ (n : ℕ). Detaches 1 z words g q (row_chain q guard first n) place (target n) n) (sym may.new_is)
       (subst (λ (k : ℕ). Detaches 1 z words g q (row_chain q guard first 48) k 3 48) (sym may.place_is)
@@ -356,7 +368,7 @@ module _ {E A W : Type 0} where
             (attached_linked (g.status 2) w.second) (attached_linked (g.status 3) r.last) n some_is low));
       }
 
-  pub row_detached : KeptDetached 1 Adds Chains May
+  pub row_detached : KeptDetached 1 Adds FirstTwo May
   row_detached z words g g' q place guard first new b after pass is may same may_go d r =
       subst (λ (n : ℕ). IsRow z (set words place n) g') (sym may.new_is)
       (subst (λ (k : ℕ). IsRow z (set words k 48) g') (sym may.place_is)

@@ -1,9 +1,9 @@
 -- The words of the heads and of the sentinels as a pool opens.
-use Rattle.std.proofs.Common.{◌≡◌, ℕ, zero, suc, ◌+◌, ◌*◌, ◌-◌, ◌<◌, ◌≤◌, List, [], ◌∷◌, ◌++◌, length, replicate, get_or}
-use Rattle.std.proofs.Common.{refl, sym, ap, ◌∙◌, subst, arith}
+use Rattle.std.proofs.Common.{◌≡◌, ℕ, zero, suc, ◌+◌, ◌*◌, ◌-◌, ◌<◌, ◌≤◌, List, ◌++◌, length, replicate, get_or}
+use Rattle.std.proofs.Common.{refl, ap, ◌∙◌, arith}
 use Rattle.std.proofs.lemmas.List.{length-replicate, get_or_append_left, get_or-append_right}
 use Rattle.pp_link.specs.declared.layout.Sizes.{Sizes}
-use Rattle.pp_link.specs.Places.{head_place, cell_place}
+use Rattle.pp_link.specs.Places.{cell_place}
 use Rattle.pp_link.specs.Words.{head_word, cell_word}
 use Rattle.pp_rule.specs.Opening.{words_from, fields_from, opening_words}
 
@@ -52,12 +52,14 @@ module _ (sentinels : ℕ) (head : ℕ → ℕ) (field : ℕ → ℕ → ℕ) (z
   abbrev ends : List ℕ
   ends = fields_from field 1 sentinels ++ replicate (4 * (z.records - sentinels)) 0
 
-  past_low : (k : ℕ) → get_or (opening_words sentinels head field z) (1 + 17 * z.passes + k) 0 ≡ get_or (words_from head 0 z.heads ++ ends) k 0
+  past_low : (k : ℕ)
+      → get_or (opening_words sentinels head field z) (1 + 17 * z.passes + k) 0 ≡ get_or (words_from head 0 z.heads ++ ends) k 0
   unfolding opening_words
   past_low k =
       let at : 1 + 17 * z.passes + k - (1 + 17 * z.passes) ≡ k = omega arith in
-      get_or-append_right (replicate (1 + 17 * z.passes) 0) (words_from head 0 z.heads ++ ends) (1 + 17 * z.passes) (1 + 17 * z.passes + k) 0
-      (length-replicate (1 + 17 * z.passes) 0) (omega arith) ∙ ap (λ (i : ℕ). get_or (words_from head 0 z.heads ++ ends) i 0) at
+      get_or-append_right (replicate (1 + 17 * z.passes) 0) (words_from head 0 z.heads ++ ends) (1 + 17 * z.passes)
+      (1 + 17 * z.passes + k) 0 (length-replicate (1 + 17 * z.passes) 0) (omega arith)
+      ∙ ap (λ (i : ℕ). get_or (words_from head 0 z.heads ++ ends) i 0) at
 
   pub opening_head : (h : ℕ) → h < z.heads → head_word (opening_words sentinels head field z) z h ≡ head h
   unfolding head_word
@@ -76,7 +78,8 @@ module _ (sentinels : ℕ) (head : ℕ → ℕ) (field : ℕ → ℕ → ℕ) (z
       let inside : 4 * (n - 1) + f < length (fields_from field 1 sentinels) = omega arith in
       let to : 1 + (n - 1) ≡ n = omega arith in
       ap (λ (k : ℕ). get_or (opening_words sentinels head field z) k 0) place ∙ (past_low (z.heads + (4 * (n - 1) + f))
-      ∙ (get_or-append_right (words_from head 0 z.heads) ends z.heads (z.heads + (4 * (n - 1) + f)) 0 (words_length head 0 z.heads) (omega arith)
+      ∙ (get_or-append_right (words_from head 0 z.heads) ends z.heads (z.heads + (4 * (n - 1) + f)) 0
+      (words_length head 0 z.heads) (omega arith)
       ∙ (ap (λ (i : ℕ). get_or ends i 0) at
       ∙ (get_or_append_left (fields_from field 1 sentinels) (replicate (4 * (z.records - sentinels)) 0) 0 (4 * (n - 1) + f) inside
       ∙ (fields_at field 1 sentinels (n - 1) f (omega arith) four ∙ ap (λ (m : ℕ). field m f) to)))))
