@@ -55,9 +55,13 @@ module _ {E A W : Type 0} where
     pub links : (n : ℕ) → 1 ≤ n → n ≤ 3 → IsLinked (g.status n) → Stays (row_link n) (cell_word words z n 2)
 
 module _ {W : Type 0} where
-  -- the pass holds the record n, and has learnt this word of its left link
-  abbrev pub Learnt : PassState W → ℕ → ℕ → Type 0
-  Learnt q n word = (i : ℕ) × ((i < 5) × ((slot q i).held ≡ true) × ((slot q i).named ≡ n) × IsIn (0, word) (slot q i).learnt)
+  -- the pass holds the record n in a walk word, and has learnt this word of its left link
+  pub record Learnt (q : PassState W) (n word : ℕ) : Type 0 where
+    pub index : ℕ
+    pub index_low : index < 5
+    pub held : (slot q index).held ≡ true
+    pub named : (slot q index).named ≡ n
+    pub learnt : IsIn (0, word) (slot q index).learnt
 
   -- the first two records, which the head leads through
   abbrev pub row_chain : PassState W → ℕ → ℕ → ℕ → Chain
