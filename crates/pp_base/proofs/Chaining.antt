@@ -1,7 +1,10 @@
 -- The steps of a pass at its frontier words and at the chains that it detached: that the rule allows them, with what they tell of
 -- the pass, and that what the pass has beside its seat still agrees with it.
-use Rattle.std.proofs.Common.{◌≡◌, ℕ, zero, suc, ◌+◌, ◌<◌, ◌≤◌, List, [], ◌∷◌, ◌++◌, map, length, get_or, set, take, drop, bit_or, refl, sym, ap, ◌∙◌, subst, arith}
-use Rattle.std.proofs.lemmas.List.{take-append-drop}
+use Rattle.std.proofs.Common.{◌≡◌, ℕ, zero, suc, ◌+◌, ◌<◌, ◌≤◌, List, [], ◌∷◌, ◌++◌, map, length, get_or, set, take, drop, bit_or, eqb, refl, sym, ap, ◌∙◌, subst, arith}
+use Rattle.std.proofs.lemmas.List.{take-append-drop, map-append, length-append, length-map}
+use Rattle.std.proofs.Math.Decide.{ℕ_discrete}
+use prog.Atomic.{either}
+use mathlib.Core.Logic.{dite}
 use Rattle.std.proofs.Math.Seq.{take-length}
 use mathlib.Core.Option.{some}
 use lib.ListN.{get_elem?}
@@ -18,20 +21,25 @@ use Rattle.pp_rule.specs.Orders.{guard_step, unguard_step, retire_step}
 use Rattle.pp_rule.specs.States.{PoolState}
 use Rattle.pp_rule.specs.Rule.{number_of}
 use Rattle.pp_rule.specs.Ties.{Holds}
-use Rattle.pp_rule.specs.Steps.{IsAlone, MadeQuietStep, with_frontier, IsUnused, Invalidated, invalidated, with_chain, retiring}
-use Rattle.pp_rule.specs.Laws.{KeptAlike, KeptInvalid}
+use Rattle.pp_rule.specs.Steps.{IsAlone, MadeQuietStep, with_frontier, IsUnused, Invalidated, invalidated, with_chain, retiring, detaching}
+use Rattle.pp_rule.specs.Laws.{KeptAlike, KeptInvalid, MayDetach, KeptDetached}
+use Rattle.pp_rule.specs.Detach.{Exchanged}
+use Rattle.pp_rule.proofs.Detaching.{detaches_chain}
 use Rattle.pp_rule.specs.Opening.{share_of}
 use Rattle.pp_rule.proofs.Frontiers.{guards_frontier, unguards_frontier}
 use Rattle.pp_rule.proofs.Invalidating.{invalidates_link}
 use Rattle.pp_rule.proofs.Retiring.{retires}
 use Rattle.pp_base.specs.declared.purse.InHand.{InHand}
 use Rattle.pp_base.specs.declared.purse.Purse.{Purse}
-use Rattle.pp_base.specs.Passes.{known, named_of, in_hand_of, IsPassOf, Keeping}
+use Rattle.pp_base.specs.Passes.{known, named_of, in_hand_of, IsPassOf, IsSame, Keeping}
 use Rattle.pp_base.specs.declared.source.Side.{Side}
 use Rattle.pp_base.specs.declared.source.Side.TheVariants.{Left, Right}
-use Rattle.pp_base.specs.Sources.{side_number}
-use Rattle.pp_base.specs.Chains.{with_guard, no_chain, chain_at, spent_numbers, LetGo}
-use Rattle.pp_base.proofs.Telling.{telling, made_alone}
+use Rattle.pp_base.specs.Sources.{side_number, source_place, IsReadable}
+use Rattle.pp_base.specs.declared.source.Place.{Place}
+use Rattle.pp_base.specs.Chains.{with_guard, no_chain, chain_at, spent_numbers, LetGo, TookInHand, MayTake}
+use Rattle.pp_base.proofs.Telling.{telling, made_alone, made_known}
+use Rattle.pp_base.proofs.Moves.{source_of}
+use Rattle.pp_base.proofs.Steady.{keeping_idle, same_known}
 
 -- the entry at an index that the list has
 pub elem_at : {X : Type 0} (xs : List X) (k : ℕ) (d : X) → k < length xs → get_elem? xs k ≡ some (get_or xs k d)
@@ -90,6 +98,10 @@ lets_go p kept j guard same items room = record {
 pub frontier_low : (z : Sizes) (p j place : ℕ) → p < z.passes → j < 4 → place ≡ frontier_place z p j → place < total z
 frontier_low z p j place pass four is = omega arith
 
+exchanged_alone : {E A W : Type 0} (c : Chain) (first new n place : ℕ) (v : SeatView E A W) (m : Me Unit (SeatView E A W)) → m.1 ≡ []
+    → Exchanged c first new n place v m.0 → IsAlone m
+exchanged_alone c first new n place v m none x = dite (ℕ_discrete n first) (λ e. made_alone m none (x.same e)) (λ ne. made_alone m none (x.other ne))
+
 module _ {E A W : Type 0} (sides : ℕ) (opens : Sizes → List ℕ) (addition : Sizes → List ℕ → PoolState E A W
     → Type 0) (z : Sizes) (slots id place : ℕ) (me : Me Unit (SeatView E A W)) where
   pub guards_on : KeptAlike sides addition → (j n : ℕ) → IsAlone me → j < 4 → IsUnused j me.0.known
@@ -107,6 +119,21 @@ module _ {E A W : Type 0} (sides : ℕ) (opens : Sizes → List ℕ) (addition :
   unguards_on alike j lone lt unused at = telling sides opens addition z slots id me place (λ _. 0)
       (λ _ m'. (m'.1 ≡ []) × MadeQuietStep unguard_step place 0 0 (with_frontier j 0 me.0.known) me.0 m'.0)
       (unguards_frontier sides opens addition alike z slots id place j me lone lt unused at) (λ _ m t. made_alone m t.0 t.1)
+
+  pub detaches_on : KeptAlike sides addition → (chain : PassState W → ℕ → ℕ → ℕ → Chain)
+      → (may_detach : Sizes → PassState W → ℕ → ℕ → ℕ → ℕ → Type 0) → MayDetach sides addition chain may_detach
+      → KeptDetached sides addition chain may_detach → (guard first new : ℕ) (at : Place) (side : Side) → IsAlone me
+      → IsReadable sides z me.0.known at side → place ≡ source_place z me.0.known at side
+      → may_detach z me.0.known (source_place z me.0.known at side) guard first new
+      → Allows (Holds sides opens addition z) slots id me place (λ n. either (eqb n first) new n)
+      (λ n m'. ((m'.1 ≡ []) × Exchanged (chain me.0.known guard first new) first new n place me.0 m'.0) × IsPassOf z m'.0.known)
+  detaches_on alike chain may_detach shows kept guard first new at side lone real is may = telling sides opens addition z slots id me place
+      (λ n. either (eqb n first) new n)
+      (λ n m'. (m'.1 ≡ []) × Exchanged (chain me.0.known guard first new) first new n place me.0 m'.0)
+      (detaches_chain sides opens addition alike chain may_detach shows kept z slots id place guard first new me lone
+      (source_of sides opens addition z slots id place me at side real is)
+      (subst (λ (k : ℕ). may_detach z me.0.known k guard first new) (sym is) may))
+      (λ n m t. exchanged_alone (chain me.0.known guard first new) first new n place me.0 m t.0 t.1)
 
   pub invalidates_on : KeptInvalid sides addition → (k n side : ℕ) → IsAlone me → k < length me.0.known.chains
       → IsIn n (chain_at me.0.known k).records → side < sides → place ≡ cell_place z n (2 + side)
@@ -224,3 +251,44 @@ module _ {E A W : Type 0} where
             ∙ (kept_rest (known s).chains ∙ (ap (λ (l : List InHand). rest_of l) k.chains ∙ sym gone.chains));
         few = subst (λ (l : List InHand). length l ≤ 4) (sym gone.chains) (rest_few p.chains.items k.few);
       }
+
+  -- One more chain is in hand.
+  pub keeping_taken : (sentinels : ℕ) (s s' : Seat Unit (SeatView E A W)) (z : Sizes) (number share : ℕ) (walk : List ℕ) (p p' : Purse)
+      (c : Chain) (h : InHand)
+      → Keeping sentinels s number share walk p → IsAlone s'.me → IsPassOf z (known s') → in_hand_of c ≡ h → length (known s).chains < 4
+      → TookInHand h p p' → known s' ≡ detaching c (known s) → Keeping sentinels s' number share walk p'
+  keeping_taken sentinels s s' z number share walk p p' c h k lone pass kept few took is =
+      keeping_listed sentinels s s' z number share walk p p' k lone pass
+      record { number = ap (λ q. q.number) is; sizes = ap (λ q. q.sizes) is; owned = ap (λ q. q.owned) is; walk = ap (λ q. q.walk) is } took.free
+      record {
+        frontier = ap (λ q. q.frontier) is ∙ (k.frontier ∙ sym took.frontier);
+        retired_are = subst (λ (l : List ℕ). take (length l) p'.retired.items ≡ l) (ap (λ q. q.retired) (sym is))
+            (subst (λ (l : List ℕ). take (length (known s).retired) l ≡ (known s).retired) (ap (λ r. r.items) (sym took.retired_are))
+            k.retired_are);
+        retired_count = ap (λ r. length r.items) took.retired_are ∙ (k.retired_count ∙ (ap (λ (n : ℕ). length (known s).retired + n)
+            (sym took.spent) ∙ ap (λ q. length q.retired + p'.spent) (sym is)));
+        chains = ap (λ q. map in_hand_of q.chains) is ∙ (map-append in_hand_of (known s).chains (c ∷ [])
+            ∙ (ap (λ (l : List InHand). l ++ in_hand_of c ∷ []) k.chains
+            ∙ (ap (λ (x : InHand). p.chains.items ++ x ∷ []) kept ∙ sym took.chains)));
+        few = let n : length p.chains.items ≡ length (known s).chains = ap (λ (l : List InHand). length l) (sym k.chains)
+            ∙ length-map (known s).chains in_hand_of in
+            let m : length p'.chains.items ≡ length p.chains.items + 1 = ap (λ (l : List InHand). length l) took.chains
+            ∙ length-append p.chains.items (h ∷ []) in omega arith;
+      }
+
+  -- It is where the link was as it is expected.
+  pub keeping_exchanged : (sentinels : ℕ) (s s' : Seat Unit (SeatView E A W)) (z : Sizes) (number share : ℕ) (walk : List ℕ) (p p' : Purse)
+      (c : Chain) (h : InHand) (first new n place : ℕ)
+      → Keeping sentinels s number share walk p → s'.me.1 ≡ [] → IsPassOf z (known s') → in_hand_of c ≡ h → length (known s).chains < 4
+      → MayTake (n ≡ first) h p p' → Exchanged c first new n place s.me.0 s'.me.0 → Keeping sentinels s' number share walk p'
+  keeping_exchanged sentinels s s' z number share walk p p' c h first new n place k none pass kept few took x = dite (ℕ_discrete n first)
+      (λ e. keeping_taken sentinels s s' z number share walk p p' c h k (made_alone s'.me none (x.same e)) pass kept few (took.taken e)
+      (made_known s'.me (x.same e)))
+      (λ ne. subst (λ (p : Purse). Keeping sentinels s' number share walk p) (sym (took.kept ne))
+      (keeping_idle sentinels s s' z number share walk p k (made_alone s'.me none (x.other ne)) pass (made_known s'.me (x.other ne))))
+
+  pub same_exchanged : (s s' : Seat Unit (SeatView E A W)) (c : Chain) (first new n place : ℕ) → Exchanged c first new n place s.me.0 s'.me.0
+      → s'.table_id ≡ s.table_id → IsSame s s'
+  same_exchanged s s' c first new n place x table = dite (ℕ_discrete n first)
+      (λ e. same_known s s' (detaching c (known s)) (made_known s'.me (x.same e)) refl refl table)
+      (λ ne. same_known s s' (known s) (made_known s'.me (x.other ne)) refl refl table)

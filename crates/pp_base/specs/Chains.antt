@@ -10,8 +10,11 @@ use Rattle.pp_rule.specs.declared.views.SeatView.{SeatView}
 use Rattle.pp_rule.specs.Orders.{guard_step, unguard_step, retire_step}
 use Rattle.pp_rule.specs.Steps.{MadeQuietStep, with_frontier, Invalidated, retiring}
 use Rattle.pp_base.specs.declared.purse.Purse.{Purse}
+use Rattle.pp_rule.specs.Detach.{Exchanged}
+use Rattle.pp_base.specs.declared.purse.InHand.{InHand}
 use Rattle.pp_base.specs.declared.source.Side.{Side}
-use Rattle.pp_base.specs.Sources.{side_number}
+use Rattle.pp_base.specs.declared.source.Place.{Place}
+use Rattle.pp_base.specs.Sources.{side_number, source_place}
 use Rattle.pp_base.specs.Passes.{known, view}
 
 -- the frontier word j of the pass has the number n
@@ -61,7 +64,29 @@ pub record LetGo (guard : ℕ) (p p' : Purse) : Type 0 where
   pub taken : p'.taken ≡ p.taken
   pub going : p'.going ≡ p.going
 
+-- one more chain is in hand, the newest
+pub record TookInHand (h : InHand) (p p' : Purse) : Type 0 where
+  pub free : p'.free ≡ p.free
+  pub retired_are : p'.retired ≡ p.retired
+  pub spent : p'.spent ≡ p.spent
+  pub chains : p'.chains.items ≡ p.chains.items ++ h ∷ []
+  pub room : vec_capacity p.chains ≤ vec_capacity p'.chains
+  pub frontier : p'.frontier ≡ p.frontier
+  pub taken : p'.taken ≡ p.taken
+  pub going : p'.going ≡ p.going
+
+-- it is where that holds, and else the purse is as it was
+pub record MayTake (hit : Type 0) (h : InHand) (p p' : Purse) : Type 0 where
+  pub taken : hit → TookInHand h p p'
+  pub kept : (hit → ⊥) → p' ≡ p
+
 module _ {E A W : Type 0} where
+  -- the chain that the shape says is detached at a source, where its link was as it is expected
+  abbrev pub DetachedAt : Sizes → (PassState W → ℕ → ℕ → ℕ → Chain) → Place → Side → ℕ → ℕ → ℕ → ℕ → Seat Unit (SeatView E A W)
+      → Seat Unit (SeatView E A W) → Type 0
+  DetachedAt z chain at side guard first new found s s' = Exchanged (chain (known s) guard first new) first new found
+      (source_place z (known s) at side) (view s) (view s')
+
   -- INVALID is set in a link of the record n of the chain with the index k
   abbrev pub InvalidatedAt : Sizes → ℕ → ℕ → Side → ℕ → Seat Unit (SeatView E A W) → Seat Unit (SeatView E A W) → Type 0
   InvalidatedAt z k n side found s s' = Invalidated k (chain_at (known s) k) n (side_number side) found
