@@ -63,7 +63,7 @@ module _ {E A W : Type 0} (sides : ℕ) (opens : Sizes → List ℕ) (addition :
       (loads_held sides opens addition alike frozen freezes z slots id place i (side_number side) me lone low.0 low.1 low.2 is)
       (λ _ m t. made_alone m t.0 t.1.made)
 
-  source_of : (at : Place) (side : Side) → IsReadable sides z me.0.known at side → place ≡ source_place z me.0.known at side
+  pub source_of : (at : Place) (side : Side) → IsReadable sides z me.0.known at side → place ≡ source_place z me.0.known at side
       → IsSource sides z me.0.known place
   source_of (Head h) side low is = inl (h, (low, is))
   source_of (Walk i) side low is = inr (i, (side_number side, (low.0, low.1, low.2, is)))

@@ -5,3 +5,4 @@ pub mod Made
 pub mod Row
 pub mod RowOpens
 pub mod RowLaws
+pub mod Chains

@@ -16,7 +16,7 @@ use pp_rule::Shape;
 use std::marker::Brand;
 
 /// Where the link stands that a pass may load there.
-fn locate<S: Shape>(pool: &Pool<S>, pass: &Pass<S>, at: Place, side: Side) -> u32
+pub(crate) fn locate<S: Shape>(pool: &Pool<S>, pass: &Pass<S>, at: Place, side: Side) -> u32
     requires fits { Fits pool.now.table.shared.table_id pool.now.layout pass.now.seat }
     requires readable { IsReadable S.SIDES pool.now.layout (known pass.now.seat) at side }
     ensures place { result ≡ source_place pool.now.layout (known pass.now.seat) at side }

@@ -1,6 +1,8 @@
 //! The table of a pool under its rule: pools, passes, and the atomic steps that every structure makes.
 #![tactic(auto)]
 
+pub mod chains;
+pub mod frontier;
 pub mod hazards;
 pub mod pool;
 pub mod private;

@@ -1,0 +1,10 @@
+use Rattle.std.proofs.Common.{◌≡◌, []}
+use Rattle.pp_rule.specs.Detach.{Exchanged}
+use Rattle.pp_base.specs.Passes.{IsPassOf}
+use Rattle.pp_base.proofs.chains.detach.Given as goal
+
+abbrev pub ghosts-exchange_word : goal.ghosts-exchange_word
+ghosts-exchange_word g a = record {
+  then = λ m n m'. ((m'.1 ≡ []) × Exchanged (g.S.Shape.chain m.0.known a._about.word a.first a.new) a.first a.new n a.place m.0 m'.0)
+      × IsPassOf a.pool.now.layout m'.0.known;
+}
