@@ -14,3 +14,11 @@ pub mod Chained
 pub mod Invalidating
 pub mod Retiring
 pub mod Detaching
+pub mod Without
+pub mod Scanning
+pub mod Freeing
+pub mod Seats
+pub mod OpeningWords
+pub mod Shares
+pub mod Opening
+pub mod Counting

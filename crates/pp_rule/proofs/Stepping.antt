@@ -19,7 +19,7 @@ use Rattle.pp_rule.proofs.Histories.{begins_self, begins_more, made_else, replay
 module _ {E A W : Type 0} where
   -- what the rule knows after a step of a pass, of which this is known now
   abbrev pub after_step : PoolState E A W → PassState W → (ℕ → RecordState) → LoggedStep E A → PoolState E A W
-  after_step g known status s = record { of = put g.of known.number known; seat = g.seat; order = g.order ++ s ∷ []; status = status }
+  after_step g known status s = record { of = put g.of known.number known; order = g.order ++ s ∷ []; status = status }
 
   -- The views are tied after a step of the seat id, whose view was v and is alone of `known`: the view of the seat has all
   -- steps, and the others have all steps of their passes, since none of these made the step.
@@ -33,23 +33,24 @@ module _ {E A W : Type 0} where
       let here : IsIn v.known (all_of v) = subst (λ (u : SeatView E A W). IsIn v.known (all_of u)) (sym lone) (0, refl) in
       let mine = (t.each_seat id v at).each v.known here in
       let low : known.number < z.passes = subst (λ (p : ℕ). p < z.passes) (sym number) mine.number in
-      let seat : g.seat known.number ≡ id = ap g.seat number ∙ mine.seat in
-      let itself : TiedPass z g' id (g.order ++ s ∷ []) known = record {
+      let seat : t.seat_of known.number ≡ id = ap t.seat_of number ∙ mine.seat in
+      let itself : TiedPass z g' t.seat_of id (g.order ++ s ∷ []) known = record {
         number = low;
         sizes = sizes;
         is = put_here g.of known.number known;
         seat = seat;
         steps = refl;
       } in record {
+        seat_of = t.seat_of;
         each_seat = λ j u is. ⊎_elim
-            (λ (c : (j ≡ id) × (w ≡ u)). subst (λ (u : SeatView E A W). Tied z g' j u) c.1 record {
+            (λ (c : (j ≡ id) × (w ≡ u)). subst (λ (u : SeatView E A W). Tied z g' t.seat_of j u) c.1 record {
               begins = begins_self (g.order ++ s ∷ []);
-              each = λ q i. subst (λ (k : ℕ). TiedPass z g' k (g.order ++ s ∷ []) q) (sym c.0)
-                  (subst (λ (q : PassState W). TiedPass z g' id (g.order ++ s ∷ []) q) (in_one q known i) itself);
+              each = λ q i. subst (λ (k : ℕ). TiedPass z g' t.seat_of k (g.order ++ s ∷ []) q) (sym c.0)
+                  (subst (λ (q : PassState W). TiedPass z g' t.seat_of id (g.order ++ s ∷ []) q) (in_one q known i) itself);
               apart = λ k l q r at_k at_l _. only q known k at_k ∙ sym (only r known l at_l);
               kept = λ o i. absurd (in_nil o i);
             })
-            (λ (c : (j ≢ id) × (get_elem? views j ≡ some u)). others j u c.0 (t.each_seat j u c.1) seat)
+            (λ (c : (j ≢ id) × (get_elem? views j ≡ some u)). others t.seat_of j u c.0 (t.each_seat j u c.1) seat)
             (at_set views id j w u is);
         last = (id, (w, set_here views id w (at_below views id v at), refl));
         made = λ m i. ⊎_elim (t.made m) (λ (last : IsIn m (s ∷ [])). subst (λ (m : LoggedStep E A). m.entry.pass < z.passes) (in_one m s last)
@@ -57,11 +58,12 @@ module _ {E A W : Type 0} where
       }
     where
       -- the view of another seat
-      others : (j : ℕ) (u : SeatView E A W) → j ≢ id → Tied z g j u → g.seat known.number ≡ id → Tied z (after_step g known status s) j u
-      others j u differ was seat = record {
+      others : (seat_of : ℕ → ℕ) (j : ℕ) (u : SeatView E A W) → j ≢ id → Tied z g seat_of j u → seat_of known.number ≡ id
+          → Tied z (after_step g known status s) seat_of j u
+      others seat_of j u differ was seat = record {
         begins = begins_more g.order u.order (s ∷ []) was.begins;
         each = λ q i. let old = was.each q i in
-            let other : q.number ≢ known.number = λ same. differ (sym old.seat ∙ (ap g.seat same ∙ seat)) in record {
+            let other : q.number ≢ known.number = λ same. differ (sym old.seat ∙ (ap seat_of same ∙ seat)) in record {
               number = old.number;
               sizes = old.sizes;
               is = put_else g.of known.number known q.number other ∙ old.is;
@@ -70,7 +72,7 @@ module _ {E A W : Type 0} where
             };
         apart = was.apart;
         kept = λ o i. let old = was.kept o i in
-            let other : o.pass ≢ known.number = λ same. differ (sym old.seat ∙ (ap g.seat same ∙ seat)) in record {
+            let other : o.pass ≢ known.number = λ same. differ (sym old.seat ∙ (ap seat_of same ∙ seat)) in record {
               begins = begins_more g.order o.order (s ∷ []) old.begins;
               seat = old.seat;
               steps = old.steps ∙ sym (made_else o.pass g.order s (λ same. other (sym same ∙ pass)));

@@ -45,11 +45,10 @@ IsStateIn z (retired p) = p < z.passes
 IsStateIn z (owned p) = p < z.passes
 IsStateIn z (shelved j) = j < 8 * z.passes
 
--- what the rule knows beside the words and the views: what is known of each pass, its seat, the order of all steps, and the
--- one state of each number
+-- what the rule knows beside the words and the views: what is known of each pass, the order of all steps, and the one state of
+-- each number
 pub record PoolState (E A W : Type 0) : Type 0 where
   pub of : ℕ → PassState W
-  pub seat : ℕ → ℕ
   pub order : List (LoggedStep E A)
   pub status : ℕ → RecordState
 

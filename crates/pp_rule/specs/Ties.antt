@@ -18,28 +18,31 @@ module _ {W : Type 0} where
 module _ {E A W : Type 0} where
   -- What is known of a pass in a view of the seat j: the pass is the seat's, what is known is what holds, and the view's order
   -- has all steps of the pass.
-  pub record TiedPass (z : Sizes) (g : PoolState E A W) (j : ℕ) (order : List (LoggedStep E A)) (q : PassState W) : Type 0 where
+  pub record TiedPass (z : Sizes) (g : PoolState E A W) (seat_of : ℕ → ℕ) (j : ℕ) (order : List (LoggedStep E A))
+      (q : PassState W) : Type 0 where
     pub number : q.number < z.passes
     pub sizes : q.sizes ≡ z
     pub is : g.of q.number ≡ q
-    pub seat : g.seat q.number ≡ j
+    pub seat : seat_of q.number ≡ j
     pub steps : made_by q.number order ≡ made_by q.number g.order
 
   -- an order that was kept at a join has all steps of its pass
-  pub record TiedOrder (g : PoolState E A W) (j : ℕ) (o : JoinedOrder E A) : Type 0 where
+  pub record TiedOrder (g : PoolState E A W) (seat_of : ℕ → ℕ) (j : ℕ) (o : JoinedOrder E A) : Type 0 where
     pub begins : BeginsWith g.order o.order
-    pub seat : g.seat o.pass ≡ j
+    pub seat : seat_of o.pass ≡ j
     pub steps : made_by o.pass o.order ≡ made_by o.pass g.order
 
   -- the view of the seat j
-  pub record Tied (z : Sizes) (g : PoolState E A W) (j : ℕ) (v : SeatView E A W) : Type 0 where
+  pub record Tied (z : Sizes) (g : PoolState E A W) (seat_of : ℕ → ℕ) (j : ℕ) (v : SeatView E A W) : Type 0 where
     pub begins : BeginsWith g.order v.order
-    pub each : (q : PassState W) → IsIn q (all_of v) → TiedPass z g j v.order q
+    pub each : (q : PassState W) → IsIn q (all_of v) → TiedPass z g seat_of j v.order q
     pub apart : OnceBy pass_number (all_of v)
-    pub kept : (o : JoinedOrder E A) → IsIn o v.kept → TiedOrder g j o
+    pub kept : (o : JoinedOrder E A) → IsIn o v.kept → TiedOrder g seat_of j o
 
   pub record Ties (z : Sizes) (views : List (SeatView E A W)) (g : PoolState E A W) : Type 0 where
-    pub each_seat : (j : ℕ) (v : SeatView E A W) → get_elem? views j ≡ some v → Tied z g j v
+    -- the seat of each pass
+    pub seat_of : ℕ → ℕ
+    pub each_seat : (j : ℕ) (v : SeatView E A W) → get_elem? views j ≡ some v → Tied z g seat_of j v
     -- some seat has seen all steps
     pub last : (j : ℕ) × ((v : SeatView E A W) × (get_elem? views j ≡ some v) × (v.order ≡ g.order))
     -- each step was made by a pass
