@@ -2,3 +2,4 @@ pub mod Telling
 pub mod Steady
 pub mod Moves
 pub mod Owning
+pub mod Scanned

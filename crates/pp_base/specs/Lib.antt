@@ -2,3 +2,4 @@ pub mod Passes
 pub mod Sources
 pub mod Private
 pub mod Made
+pub mod Scans

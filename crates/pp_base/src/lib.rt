@@ -5,6 +5,7 @@ pub mod hazards;
 pub mod pool;
 pub mod private;
 pub mod purse;
+pub mod scan;
 pub mod source;
 pub mod steps;
 
