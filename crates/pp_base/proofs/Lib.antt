@@ -3,3 +3,4 @@ pub mod Steady
 pub mod Moves
 pub mod Owning
 pub mod Scanned
+pub mod Seated

@@ -41,7 +41,8 @@ module _ {E A W : Type 0} where
       (found : ℕ)
       → Keeping sentinels s number share walk p → IsAlone s'.me → IsPassOf z (known s') → known s' ≡ scanned found (known s)
       → Keeping sentinels s' number share walk p
-  keeping_scanned sentinels s s' z number share walk p found k lone pass is = keeping_steady sentinels s s' z number share walk walk p k lone pass
+  keeping_scanned sentinels s s' z number share walk p found k lone pass is =
+      keeping_steady sentinels s s' z number share walk walk p k lone pass
       record {
         number = ap (λ q. q.number) is;
         sizes = ap (λ q. q.sizes) is;

@@ -3,3 +3,4 @@ pub mod Sources
 pub mod Private
 pub mod Made
 pub mod Scans
+pub mod Seats

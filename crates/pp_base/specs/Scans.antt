@@ -11,7 +11,8 @@ use Rattle.pp_base.specs.Passes.{known, view}
 module _ {E A W : Type 0} where
   -- the frontier word i of the pass p is loaded, and what it names is no longer left
   abbrev pub ScannedFrontier : Sizes → ℕ → ℕ → ℕ → Seat Unit (SeatView E A W) → Seat Unit (SeatView E A W) → Type 0
-  ScannedFrontier z p i found s s' = MadeQuietStep scan_frontier_step (frontier_place z p i) found found (scanned found (known s)) (view s) (view s')
+  ScannedFrontier z p i found s s' = MadeQuietStep scan_frontier_step (frontier_place z p i) found found (scanned found (known s))
+      (view s) (view s')
 
   -- the walk word i of the pass p is loaded, and what it names is no longer left
   abbrev pub ScannedWalk : Sizes → ℕ → ℕ → ℕ → Seat Unit (SeatView E A W) → Seat Unit (SeatView E A W) → Type 0

@@ -6,6 +6,7 @@ pub mod pool;
 pub mod private;
 pub mod purse;
 pub mod scan;
+pub mod seats;
 pub mod source;
 pub mod steps;
 
