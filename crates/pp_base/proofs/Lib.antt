@@ -3,3 +3,5 @@ pub mod Steady
 pub mod Moves
 pub mod Owning
 pub mod Chaining
+pub mod Scanned
+pub mod Seated

@@ -6,3 +6,5 @@ pub mod Row
 pub mod RowOpens
 pub mod RowLaws
 pub mod Chains
+pub mod Scans
+pub mod Seats

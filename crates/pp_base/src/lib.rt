@@ -8,6 +8,8 @@ pub mod pool;
 pub mod private;
 pub mod purse;
 pub mod row;
+pub mod scan;
+pub mod seats;
 pub mod source;
 pub mod steps;
 

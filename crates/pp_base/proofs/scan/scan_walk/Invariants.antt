@@ -1,0 +1,11 @@
+use Rattle.std.proofs.Common.{◌≡◌, []}
+use Rattle.pp_rule.specs.Orders.{scan_walk_step}
+use Rattle.pp_rule.specs.Steps.{MadeQuietStep, scanned}
+use Rattle.pp_base.specs.Passes.{IsPassOf}
+use Rattle.pp_base.proofs.scan.scan_walk.Given as goal
+
+abbrev pub ghosts-load_word : goal.ghosts-load_word
+ghosts-load_word g a = record {
+  then = λ m n m'. ((m'.1 ≡ []) × MadeQuietStep scan_walk_step a.place n n (scanned n m.0.known) m.0 m'.0)
+      × IsPassOf a.pool.now.layout m'.0.known;
+}

@@ -1,0 +1,19 @@
+-- The loads of a reclaim pass, said of its seat before and after them.
+use Rattle.std.specs.Prelude.{ℕ}
+use Rattle.atomic_table.specs.declared.shared.Seat.{Seat}
+use Rattle.pp_link.specs.declared.layout.Sizes.{Sizes}
+use Rattle.pp_link.specs.Places.{walk_place, frontier_place}
+use Rattle.pp_rule.specs.declared.views.SeatView.{SeatView}
+use Rattle.pp_rule.specs.Orders.{scan_frontier_step, scan_walk_step}
+use Rattle.pp_rule.specs.Steps.{MadeQuietStep, scanned}
+use Rattle.pp_base.specs.Passes.{known, view}
+
+module _ {E A W : Type 0} where
+  -- the frontier word i of the pass p is loaded, and what it names is no longer left
+  abbrev pub ScannedFrontier : Sizes → ℕ → ℕ → ℕ → Seat Unit (SeatView E A W) → Seat Unit (SeatView E A W) → Type 0
+  ScannedFrontier z p i found s s' = MadeQuietStep scan_frontier_step (frontier_place z p i) found found (scanned found (known s))
+      (view s) (view s')
+
+  -- the walk word i of the pass p is loaded, and what it names is no longer left
+  abbrev pub ScannedWalk : Sizes → ℕ → ℕ → ℕ → Seat Unit (SeatView E A W) → Seat Unit (SeatView E A W) → Type 0
+  ScannedWalk z p i found s s' = MadeQuietStep scan_walk_step (walk_place z p i) found found (scanned found (known s)) (view s) (view s')
