@@ -237,9 +237,9 @@ module _ {E A W : Type 0} where
   keeping_retired sentinels s s' z number share walk p p' k lone pass spent gone is =
       let c : Chain = chain_at (known s) 0 in
       let all : p'.retired.items ≡ (known s').retired = ap (λ r. r.items) gone.retired_are
-          ∙ (sym (take-append-drop (length (known s).retired) p.retired.items)
-          ∙ (ap (λ (l : List ℕ). l ++ drop (length (known s).retired) p.retired.items) k.retired_are
-          ∙ (ap (λ (l : List ℕ). (known s).retired ++ l) spent ∙ ap (λ q. q.retired) (sym is)))) in
+      ∙ (sym (take-append-drop (length (known s).retired) p.retired.items)
+      ∙ (ap (λ (l : List ℕ). l ++ drop (length (known s).retired) p.retired.items) k.retired_are
+      ∙ (ap (λ (l : List ℕ). (known s).retired ++ l) spent ∙ ap (λ q. q.retired) (sym is)))) in
       keeping_listed sentinels s s' z number share walk p p' k lone pass
       record { number = ap (λ q. q.number) is; sizes = ap (λ q. q.sizes) is; owned = ap (λ q. q.owned) is; walk = ap (λ q. q.walk) is } gone.free
       record {

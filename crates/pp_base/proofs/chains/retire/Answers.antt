@@ -42,21 +42,21 @@ pub invariant_of-pass : goal.invariant_of-pass
 invariant_of-pass g c = let pass = c.args.pass.now in let same : c.index.result.now.guard ≡ (chain_at (known pass.seat) 0).guard =
     oldest_guard (known pass.seat).chains pass.purse.chains.items c.index.result.now pass.keeping.chains c.requires.some c.index.ensures in
     let t = c.store_word.ensures.told in let seat = c.store_word.new.seat in record {
-  keeping = keeping_retired g.S.Shape.SENTINELS pass.seat seat _ _ _ _ _ _ pass.keeping (made_alone seat.me t.0.0 t.0.1) t.1
-      c.requires.spent (lets_go pass.purse c.remove.new.self _ _ same c.remove.ensures.items c.remove.ensures.capacity)
-      (made_known seat.me t.0.1);
-}
+      keeping = keeping_retired g.S.Shape.SENTINELS pass.seat seat _ _ _ _ _ _ pass.keeping (made_alone seat.me t.0.0 t.0.1) t.1
+          c.requires.spent (lets_go pass.purse c.remove.new.self _ _ same c.remove.ensures.items c.remove.ensures.capacity)
+          (made_known seat.me t.0.1);
+    }
 
 pub returns : goal.returns
 returns g c = let pass = c.args.pass.now in let same : c.index.result.now.guard ≡ (chain_at (known pass.seat) 0).guard =
     oldest_guard (known pass.seat).chains pass.purse.chains.items c.index.result.now pass.keeping.chains c.requires.some c.index.ensures in
     let t = c.store_word.ensures.told in let seat = c.store_word.new.seat in record {
-  same = same_known pass.seat seat (retiring (chain_at (known pass.seat) 0) (known pass.seat)) (made_known seat.me t.0.1) refl refl
-      c.store_word.ensures.table;
-  made = subst (λ (k : ℕ). MadeQuietStep retire_step k 0 0 (retiring (chain_at (known pass.seat) 0) (known pass.seat))
-      (view pass.seat) (view seat))
-      (c.frontier_word-place.ensures ∙ (ap (λ (p : ℕ). frontier_place c.args.pool.now.layout p c.index.result.now.guard) (sym pass.keeping.number_is)
-    ∙ ap (λ (j : ℕ). frontier_place c.args.pool.now.layout (known pass.seat).number j) same)) t.0.1;
-  walk = refl;
-  purse = lets_go pass.purse c.remove.new.self _ _ same c.remove.ensures.items c.remove.ensures.capacity;
-}
+      same = same_known pass.seat seat (retiring (chain_at (known pass.seat) 0) (known pass.seat)) (made_known seat.me t.0.1) refl refl
+          c.store_word.ensures.table;
+      made = subst (λ (k : ℕ). MadeQuietStep retire_step k 0 0 (retiring (chain_at (known pass.seat) 0) (known pass.seat))
+          (view pass.seat) (view seat))
+          (c.frontier_word-place.ensures ∙ (ap (λ (p : ℕ). frontier_place c.args.pool.now.layout p c.index.result.now.guard) (sym pass.keeping.number_is)
+          ∙ ap (λ (j : ℕ). frontier_place c.args.pool.now.layout (known pass.seat).number j) same)) t.0.1;
+      walk = refl;
+      purse = lets_go pass.purse c.remove.new.self _ _ same c.remove.ensures.items c.remove.ensures.capacity;
+    }
