@@ -1,5 +1,6 @@
 -- The steps of a try to protect a record, and what they leave of its pass.
-use Rattle.std.proofs.Common.{◌≡◌, ◌≢◌, ◌⊎◌, inl, inr, ℕ, ◌+◌, ◌<◌, ◌≤◌, Bool, true, false, cond, ◌&&◌, List, [], ◌∷◌, length, set, refl, sym, ap, ◌∙◌, subst, arith}
+use Rattle.std.proofs.Common.{◌≡◌, ◌≢◌, ◌⊎◌, inl, inr, ℕ, ◌+◌, ◌<◌, ◌≤◌, Bool, true, false, cond, ◌&&◌}
+use Rattle.std.proofs.Common.{List, [], ◌∷◌, length, set, refl, sym, ap, ◌∙◌, subst, arith}
 use Rattle.std.proofs.lemmas.List.{set-set}
 use Rattle.std.proofs.Math.Bool.{false≢true}
 use Rattle.std.proofs.Math.Decide.{ℕ_discrete}
@@ -20,7 +21,8 @@ use Rattle.pp_base.specs.declared.source.Place.{Place}
 use Rattle.pp_base.specs.declared.source.Place.TheVariants.{Head, Walk}
 use Rattle.pp_base.specs.Passes.{IsPassOf}
 use Rattle.pp_base.specs.Sources.{side_number, source_place, IsReadable, learning_at}
-use Rattle.pp_hazard.specs.Protection.{loads, announces, confirms, clears, SameRecord, SameBut, MadeOne, Protects, FindsNil, FindsInvalid, FindsOther}
+use Rattle.pp_hazard.specs.Protection.{loads, announces, confirms, clears, SameRecord, SameBut}
+use Rattle.pp_hazard.specs.Protection.{MadeOne, Protects, FindsNil, FindsInvalid, FindsOther}
 
 same_record : (s : WalkSlot) → SameRecord s s
 same_record s = record { named = refl; held = refl; key = refl; value = refl }
@@ -61,7 +63,8 @@ module _ {W : Type 0} where
     walk = λ j. dite (ℕ_discrete j i)
         (λ e. subst (λ (k : ℕ). SameRecord (slot q k) (slot (with_walk i w q) k)) (sym e)
         (subst (λ (s : WalkSlot). SameRecord (slot q i) s) (sym (slot_here q (with_walk i w q) i w refl low)) same))
-        (λ ne. subst (λ (s : WalkSlot). SameRecord (slot q j) s) (sym (slot_else q (with_walk i w q) i w refl j ne)) (same_record (slot q j)));
+        (λ ne. subst (λ (s : WalkSlot). SameRecord (slot q j) s) (sym (slot_else q (with_walk i w q) i w refl j ne)) (same_record
+        (slot q j)));
   }
 
   pub learnt_at : (sides : ℕ) (z : Sizes) (frozen : ℕ → Bool) (at : Place) (side : Side) (word : ℕ) (q : PassState W)
@@ -74,10 +77,12 @@ module _ {W : Type 0} where
 
       by : (b : Bool) → Learnt q (cond b (with_walk i more q) q)
       by false = learnt_nothing q
-      by true = learnt_here q i more (subst (λ (n : ℕ). i < n) (sym five) low.0) (record { named = refl; held = refl; key = refl; value = refl })
+      by true = learnt_here q i more (subst (λ (n : ℕ). i < n) (sym five) low.0)
+          (record { named = refl; held = refl; key = refl; value = refl })
 
   -- after that another walk word has any slot
-  pub but_one : (i : ℕ) (q q' : PassState W) (w : WalkSlot) (own : W) → Learnt q q' → SameBut i q (record q' { walk = set q'.walk i w; own = own })
+  pub but_one : (i : ℕ) (q q' : PassState W) (w : WalkSlot) (own : W) → Learnt q q'
+      → SameBut i q (record q' { walk = set q'.walk i w; own = own })
   but_one i q q' w own l = let q'' : PassState W = record q' { walk = set q'.walk i w; own = own } in record {
     walk = λ j five ne. subst (λ (s : WalkSlot). SameRecord (slot q j) s) (sym (slot_else q' q'' i w refl j ne)) (l.walk j);
     frontier = l.frontier;
@@ -108,7 +113,8 @@ module _ {W : Type 0} where
       (same.walk j low.0 (λ e. false≢true (sym free ∙ (ap (λ (k : ℕ). (slot q k).held) (sym e) ∙ low.2)))).named
 
 module _ {E A W : Type 0} where
-  quiet_known : (kind place word left : ℕ) (q : PassState W) (v w : SeatView E A W) → MadeQuietStep kind place word left q v w → w.known ≡ q
+  quiet_known : (kind place word left : ℕ) (q : PassState W) (v w : SeatView E A W)
+      → MadeQuietStep kind place word left q v w → w.known ≡ q
   quiet_known kind place word left q v w m = known_after kind place word left [] [] q v w m
 
 module _ {E A W : Type 0} (sides : ℕ) (z : Sizes) (frozen : ℕ → Bool) (forget : ℕ → W → W) (at : Place) (side : Side) (i : ℕ)
@@ -172,7 +178,8 @@ module _ {E A W : Type 0} (sides : ℕ) (z : Sizes) (frozen : ℕ → Bool) (for
 
       place_is : source_place z v2.known at side ≡ link_place
       place_is = ap (λ (q : PassState W). source_place z q at side) named_known
-          ∙ same_source sides z at side i v.known named readable free (but_one i v.known (learnt first) (naming (target first)) (learnt first).own (more first))
+          ∙ same_source sides z at side i v.known named readable free (but_one i v.known (learnt first) (naming (target first))
+          (learnt first).own (more first))
 
       pub protects : second ≡ first → Protects z frozen forget at side i v v3 first
       protects e = let held = confirmed.same e in let w : WalkSlot = holding (target first) held.0 held.1.0 in record {
@@ -231,7 +238,8 @@ module _ {E A W : Type 0} (sides : ℕ) (z : Sizes) (frozen : ℕ → Bool) (for
                           v4,
                           (
                             subst (λ (p : ℕ). MadeOne (clears p) v3 v4)
-                                (ap (λ (q : PassState W). walk_place z q.number i) same ∙ ap (λ (n : ℕ). walk_place z n i) (more first).number)
+                                (ap (λ (q : PassState W). walk_place z q.number i) same
+                                ∙ ap (λ (n : ℕ). walk_place z n i) (more first).number)
                                 (record { known = clearing forget i v3.known; number = refl; owned = refl; made = cleared }),
                             refl,
                           ),

@@ -3,6 +3,7 @@ use Rattle.std.specs.Prelude.{◌≡◌, ◌≢◌, ◌⊎◌, ℕ, ◌<◌, Boo
 use Rattle.pp_link.specs.declared.layout.Sizes.{Sizes}
 use Rattle.pp_link.specs.Links.{word_of, target, invalid_bit}
 use Rattle.pp_link.specs.Places.{IsNumber, walk_place}
+use Rattle.pp_model.specs.declared.steps.Step.{Step}
 use Rattle.pp_rule.specs.Orders.{load_step, announce_step, confirm_step, clear_step}
 use Rattle.pp_rule.specs.declared.views.WalkSlot.{WalkSlot}
 use Rattle.pp_rule.specs.declared.views.PassState.{PassState}
@@ -20,6 +21,10 @@ pub record NamedStep : Type 0 where
   pub kind : ℕ
   pub place : ℕ
   pub word : ℕ
+
+-- how a step of the order is named
+abbrev pub name_of : Step → NamedStep
+name_of s = record { kind = s.kind; place = s.place; word = s.word }
 
 abbrev pub loads : ℕ → ℕ → NamedStep
 loads place word = record { kind = load_step; place = place; word = word }
