@@ -4,3 +4,4 @@ pub mod Moves
 pub mod Owning
 pub mod Scanned
 pub mod Seated
+pub mod Parted

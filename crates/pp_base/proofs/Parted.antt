@@ -1,0 +1,78 @@
+-- A list is parted in place: the numbers for which a test holds move to its front, and the others go to another list.
+use Rattle.std.proofs.Common.{◌≡◌, ℕ, ◌+◌, ◌<◌, ◌≤◌, Bool, true, false, cond, eqb, ◌||◌, List, [], ◌∷◌, ◌++◌, length, get_or, set, take, drop}
+use Rattle.std.proofs.Common.{refl, sym, ap, ◌∙◌, arith}
+use Rattle.std.proofs.lemmas.List.{take_more_set, drop-set-lt, drop_more, drop_all, append_assoc, append-nil}
+use Rattle.pp_rule.specs.Lists.{without}
+use Rattle.pp_base.specs.Scans.{chosen, rejected}
+
+module _ (test : ℕ → Bool) where
+  chosen_yes : (n : ℕ) (ns : List ℕ) → test n ≡ true → chosen test (n ∷ ns) ≡ n ∷ chosen test ns
+  unfolding chosen
+  chosen_yes n ns e = ap (λ (b : Bool). cond b (n ∷ chosen test ns) (chosen test ns)) e
+
+  chosen_no : (n : ℕ) (ns : List ℕ) → test n ≡ false → chosen test (n ∷ ns) ≡ chosen test ns
+  unfolding chosen
+  chosen_no n ns e = ap (λ (b : Bool). cond b (n ∷ chosen test ns) (chosen test ns)) e
+
+  rejected_yes : (n : ℕ) (ns : List ℕ) → test n ≡ true → rejected test (n ∷ ns) ≡ rejected test ns
+  unfolding rejected
+  rejected_yes n ns e = ap (λ (b : Bool). cond b (rejected test ns) (n ∷ rejected test ns)) e
+
+  rejected_no : (n : ℕ) (ns : List ℕ) → test n ≡ false → rejected test (n ∷ ns) ≡ n ∷ rejected test ns
+  unfolding rejected
+  rejected_no n ns e = ap (λ (b : Bool). cond b (rejected test ns) (n ∷ rejected test ns)) e
+
+  next : (xs : List ℕ) (i n : ℕ) → i < length xs → n ≡ get_or xs i n → drop i xs ≡ n ∷ drop (i + 1) xs
+  next xs i n lt is = drop_more xs i n lt ∙ ap (λ (m : ℕ). m ∷ drop (i + 1) xs) (sym is)
+
+  pub stays_kept : (xs all : List ℕ) (kept i n : ℕ) → kept ≤ i → i < length xs → n ≡ get_or xs i n → test n ≡ true
+      → take kept xs ++ chosen test (drop i xs) ≡ all → take (kept + 1) (set xs kept n) ++ chosen test (drop (i + 1) (set xs kept n)) ≡ all
+  stays_kept xs all kept i n le lt is held e =
+      ap (λ (l : List ℕ). l ++ chosen test (drop (i + 1) (set xs kept n))) (take_more_set xs kept n (omega arith))
+      ∙ (ap (λ (l : List ℕ). (take kept xs ++ n ∷ []) ++ chosen test l) (drop-set-lt (i + 1) xs kept n (omega arith))
+      ∙ (append_assoc (take kept xs) (n ∷ []) (chosen test (drop (i + 1) xs))
+      ∙ (ap (λ (l : List ℕ). take kept xs ++ l) (sym (ap (chosen test) (next xs i n lt is) ∙ chosen_yes n (drop (i + 1) xs) held)) ∙ e)))
+
+  pub stays_gone : (xs all : List ℕ) (kept i n : ℕ) → i < length xs → n ≡ get_or xs i n → test n ≡ false
+      → take kept xs ++ chosen test (drop i xs) ≡ all → take kept xs ++ chosen test (drop (i + 1) xs) ≡ all
+  stays_gone xs all kept i n lt is out e =
+      ap (λ (l : List ℕ). take kept xs ++ l) (sym (ap (chosen test) (next xs i n lt is) ∙ chosen_no n (drop (i + 1) xs) out)) ∙ e
+
+  pub freed_kept : (xs free all : List ℕ) (kept i n : ℕ) → kept ≤ i → i < length xs → n ≡ get_or xs i n → test n ≡ true
+      → free ++ rejected test (drop i xs) ≡ all → free ++ rejected test (drop (i + 1) (set xs kept n)) ≡ all
+  freed_kept xs free all kept i n le lt is held e =
+      ap (λ (l : List ℕ). free ++ rejected test l) (drop-set-lt (i + 1) xs kept n (omega arith))
+      ∙ (ap (λ (l : List ℕ). free ++ l) (sym (ap (rejected test) (next xs i n lt is) ∙ rejected_yes n (drop (i + 1) xs) held)) ∙ e)
+
+  pub freed_gone : (xs free all : List ℕ) (i n : ℕ) → i < length xs → n ≡ get_or xs i n → test n ≡ false
+      → free ++ rejected test (drop i xs) ≡ all → (free ++ n ∷ []) ++ rejected test (drop (i + 1) xs) ≡ all
+  freed_gone xs free all i n lt is out e = append_assoc free (n ∷ []) (rejected test (drop (i + 1) xs))
+      ∙ (ap (λ (l : List ℕ). free ++ l) (sym (ap (rejected test) (next xs i n lt is) ∙ rejected_no n (drop (i + 1) xs) out)) ∙ e)
+
+  pub stays_all : (xs all : List ℕ) (kept i : ℕ) → length xs ≤ i → take kept xs ++ chosen test (drop i xs) ≡ all → take kept xs ≡ all
+  unfolding chosen
+  stays_all xs all kept i le e = sym (append-nil (take kept xs)) ∙ (ap (λ (l : List ℕ). take kept xs ++ chosen test l) (sym (drop_all i xs le)) ∙ e)
+
+  pub freed_all : (xs free all : List ℕ) (i : ℕ) → length xs ≤ i → free ++ rejected test (drop i xs) ≡ all → free ≡ all
+  unfolding rejected
+  freed_all xs free all i le e = sym (append-nil free) ∙ (ap (λ (l : List ℕ). free ++ rejected test l) (sym (drop_all i xs le)) ∙ e)
+
+-- a number that isn't left out of the list by the first test is left out by the second or stays
+rejected_twice : (first second : ℕ → Bool) (ns : List ℕ) → rejected second (rejected first ns) ≡ rejected (λ n. first n || second n) ns
+unfolding rejected
+rejected_twice first second [] = refl
+rejected_twice first second (n ∷ ns) = by (rejected_twice first second ns) (first n) refl
+  where
+    by : rejected second (rejected first ns) ≡ rejected (λ m. first m || second m) ns → (b : Bool) → first n ≡ b
+        → rejected second (rejected first (n ∷ ns)) ≡ rejected (λ m. first m || second m) (n ∷ ns)
+    by rest true e = ap (rejected second) (rejected_yes first n ns e) ∙ (rest
+        ∙ sym (rejected_yes (λ m. first m || second m) n ns (ap (λ (b : Bool). b || second n) e)))
+    by rest false e = ap (rejected second) (rejected_no first n ns e)
+        ∙ (ap (λ (l : List ℕ). cond (second n) l (n ∷ l)) rest
+        ∙ sym (ap (λ (b : Bool). cond (b || second n) (rejected (λ m. first m || second m) ns)
+        (n ∷ rejected (λ m. first m || second m) ns)) e))
+
+pub without_rejects : (n : ℕ) (ns : List ℕ) → without n ns ≡ rejected (λ m. eqb m n) ns
+unfolding rejected
+without_rejects n [] = refl
+without_rejects n (m ∷ ns) = ap (λ (l : List ℕ). cond (eqb m n) l (m ∷ l)) (without_rejects n ns)
