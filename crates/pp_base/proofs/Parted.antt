@@ -1,8 +1,11 @@
 -- A list is parted in place: the numbers for which a test holds move to its front, and the others go to another list.
 use Rattle.std.proofs.Common.{◌≡◌, ℕ, ◌+◌, ◌<◌, ◌≤◌, Bool, true, false, cond, eqb, ◌||◌, List, [], ◌∷◌, ◌++◌, length, get_or, set, take, drop}
-use Rattle.std.proofs.Common.{refl, sym, ap, ◌∙◌, arith}
+use Rattle.std.proofs.Common.{refl, sym, ap, ◌∙◌, eq-eqb, ne_eqb, arith}
+use Rattle.std.proofs.Math.Decide.{ℕ_discrete}
+use mathlib.Core.Logic.{dite}
+use Rattle.std.specs.List.{list_any}
 use Rattle.std.proofs.lemmas.List.{take_more_set, drop-set-lt, drop_more, drop_all, append_assoc, append-nil}
-use Rattle.pp_rule.specs.Lists.{without}
+use Rattle.pp_rule.specs.Lists.{without, without_all}
 use Rattle.pp_base.specs.Scans.{chosen, rejected}
 
 module _ (test : ℕ → Bool) where
@@ -76,3 +79,29 @@ pub without_rejects : (n : ℕ) (ns : List ℕ) → without n ns ≡ rejected (�
 unfolding rejected
 without_rejects n [] = refl
 without_rejects n (m ∷ ns) = ap (λ (l : List ℕ). cond (eqb m n) l (m ∷ l)) (without_rejects n ns)
+
+pub all_kept : (ns : List ℕ) → rejected (λ n. false) ns ≡ ns
+unfolding rejected
+all_kept [] = refl
+all_kept (n ∷ ns) = ap (λ (l : List ℕ). n ∷ l) (all_kept ns)
+
+-- two tests that agree leave out the same numbers
+pub rejected_same : (first second : ℕ → Bool) → ((n : ℕ) → first n ≡ second n) → (ns : List ℕ) → rejected first ns ≡ rejected second ns
+unfolding rejected
+rejected_same first second same [] = refl
+rejected_same first second same (n ∷ ns) = ap (λ (b : Bool). cond b (rejected first ns) (n ∷ rejected first ns)) (same n)
+    ∙ ap (λ (l : List ℕ). cond (second n) l (n ∷ l)) (rejected_same first second same ns)
+
+eqb_swap : (n m : ℕ) → eqb n m ≡ eqb m n
+eqb_swap n m = dite (ℕ_discrete n m) (λ e. eq-eqb n m e ∙ sym (eq-eqb m n (sym e)))
+    (λ ne. ne_eqb n m ne ∙ sym (ne_eqb m n (λ e. ne (sym e))))
+
+-- what is left of the list without the words' numbers was named by none of them
+pub without_words : (words ns : List ℕ) → without_all words ns ≡ rejected (λ n. list_any (λ w. eqb w n) words) ns
+unfolding rejected
+without_words [] ns = sym (all_kept ns)
+without_words (w ∷ words) ns = without_words words (without w ns)
+    ∙ (ap (rejected (λ n. list_any (λ v. eqb v n) words)) (without_rejects w ns)
+    ∙ (rejected_twice (λ n. eqb n w) (λ n. list_any (λ v. eqb v n) words) ns
+    ∙ rejected_same (λ n. eqb n w || list_any (λ v. eqb v n) words) (λ n. eqb w n || list_any (λ v. eqb v n) words)
+    (λ n. ap (λ (b : Bool). b || list_any (λ v. eqb v n) words) (eqb_swap n w)) ns))

@@ -10,7 +10,8 @@ loop-i-preserved c = let test = is_named c.args.words.now c.args.last in let n =
     let below : c.loop-i.i < length c.loop-i.retired.items = omega (arith, c.loop-i-test.true, c.len-count.ensures, before.count) in
     elim c.if-is_hazard.branch [
       then-is_hazard w ↦ rw (w.kept-is, w.retired-is, w.free-is) record {
-        stays = stays_kept test xs _ kept i n before.behind below c.index-number.ensures (sym c.is_hazard.ensures ∙ w.if-is_hazard.true) before.stays;
+        stays = stays_kept test xs _ kept i n before.behind below c.index-number.ensures
+            (sym c.is_hazard.ensures ∙ w.if-is_hazard.true) before.stays;
         freed = freed_kept test xs c.loop-i.free.items _ kept i n before.behind below c.index-number.ensures
             (sym c.is_hazard.ensures ∙ w.if-is_hazard.true) before.freed;
         count = length-set xs kept n ∙ before.count;
@@ -28,7 +29,8 @@ loop-i-preserved c = let test = is_named c.args.words.now c.args.last in let n =
     ]
 
 pub returns-clause-retired : goal.returns-clause-retired
-returns-clause-retired c = c.truncate.ensures.items ∙ stays_all (is_named c.args.words.now c.args.last) c.loop-i.retired.items _ c.loop-i.kept c.loop-i.i
+returns-clause-retired c = c.truncate.ensures.items
+    ∙ stays_all (is_named c.args.words.now c.args.last) c.loop-i.retired.items _ c.loop-i.kept c.loop-i.i
     (omega (arith, c.loop-i-test.false, c.len-count.ensures, c.loop-i.invariant.count)) c.loop-i.invariant.stays
 
 pub returns-clause-free : goal.returns-clause-free
