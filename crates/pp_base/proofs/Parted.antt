@@ -1,12 +1,13 @@
 -- A list is parted in place: the numbers for which a test holds move to its front, and the others go to another list.
-use Rattle.std.proofs.Common.{◌≡◌, ℕ, ◌+◌, ◌<◌, ◌≤◌, Bool, true, false, cond, eqb, ◌||◌, List, [], ◌∷◌, ◌++◌, length, get_or, set, take, drop}
+use Rattle.std.proofs.Common.{◌≡◌, ℕ, ◌+◌, ◌<◌, ◌≤◌, Bool, true, false, cond, eqb, ◌||◌, List, [], ◌∷◌, ◌++◌}
+use Rattle.std.proofs.Common.{length, get_or, set, take, drop}
 use Rattle.std.proofs.Common.{refl, sym, ap, ◌∙◌, eq-eqb, ne_eqb, arith}
 use Rattle.std.proofs.Math.Decide.{ℕ_discrete}
 use mathlib.Core.Logic.{dite}
 use Rattle.std.specs.List.{list_any}
 use Rattle.std.proofs.lemmas.List.{take_more_set, drop-set-lt, drop_more, drop_all, append_assoc, append-nil}
 use Rattle.pp_rule.specs.Lists.{without, without_all}
-use Rattle.pp_base.specs.Scans.{chosen, rejected}
+use Rattle.pp_base.specs.Scans.{is_named, chosen, rejected}
 
 module _ (test : ℕ → Bool) where
   chosen_yes : (n : ℕ) (ns : List ℕ) → test n ≡ true → chosen test (n ∷ ns) ≡ n ∷ chosen test ns
@@ -105,3 +106,17 @@ without_words (w ∷ words) ns = without_words words (without w ns)
     ∙ (rejected_twice (λ n. eqb n w) (λ n. list_any (λ v. eqb v n) words) ns
     ∙ rejected_same (λ n. eqb n w || list_any (λ v. eqb v n) words) (λ n. eqb w n || list_any (λ v. eqb v n) words)
     (λ n. ap (λ (b : Bool). b || list_any (λ v. eqb v n) words) (eqb_swap n w)) ns))
+
+or_swap : (a b : Bool) → (a || b) ≡ (b || a)
+or_swap true true = refl
+or_swap true false = refl
+or_swap false true = refl
+or_swap false false = refl
+
+-- what neither the words nor the last one name
+pub rejected_words : (words ns : List ℕ) (last : ℕ) → rejected (is_named words last) ns ≡ without last (without_all words ns)
+rejected_words words ns last = sym (without_rejects last (without_all words ns)
+    ∙ (ap (rejected (λ m. eqb m last)) (without_words words ns)
+    ∙ (rejected_twice (λ n. list_any (λ w. eqb w n) words) (λ m. eqb m last) ns
+    ∙ rejected_same (λ n. list_any (λ w. eqb w n) words || eqb n last) (is_named words last)
+    (λ n. or_swap (list_any (λ w. eqb w n) words) (eqb n last)) ns)))
