@@ -2,6 +2,7 @@
 use Rattle.std.proofs.Common.{◌≡◌, ℕ, ◌+◌, ◌<◌, ◌≤◌, Bool, true, false, cond, eqb, ◌||◌, List, [], ◌∷◌, ◌++◌}
 use Rattle.std.proofs.Common.{length, get_or, set, take, drop}
 use Rattle.std.proofs.Common.{refl, sym, ap, ◌∙◌, eq-eqb, ne_eqb, arith}
+use Rattle.std.proofs.Math.Bool.{false≢true}
 use Rattle.std.proofs.Math.Decide.{ℕ_discrete}
 use mathlib.Core.Logic.{dite}
 use Rattle.std.specs.List.{list_any}
@@ -120,3 +121,36 @@ rejected_words words ns last = sym (without_rejects last (without_all words ns)
     ∙ (rejected_twice (λ n. list_any (λ w. eqb w n) words) (λ m. eqb m last) ns
     ∙ rejected_same (λ n. list_any (λ w. eqb w n) words || eqb n last) (is_named words last)
     (λ n. or_swap (list_any (λ w. eqb w n) words) (eqb n last)) ns)))
+
+module _ (test : ℕ → Bool) where
+  -- no number for which the test holds is among the others
+  chosen_out : (n : ℕ) (ns : List ℕ) → test n ≡ true → list_any (λ w. eqb w n) (rejected test ns) ≡ false
+  unfolding rejected
+  chosen_out n [] held = refl
+  chosen_out n (m ∷ ns) held = by (chosen_out n ns held) (test m) refl
+    where
+      by : list_any (λ w. eqb w n) (rejected test ns) ≡ false → (b : Bool) → test m ≡ b
+          → list_any (λ w. eqb w n) (cond b (rejected test ns) (m ∷ rejected test ns)) ≡ false
+      by rest true e = rest
+      by rest false e = ap (λ (b : Bool). b || list_any (λ w. eqb w n) (rejected test ns))
+          (ne_eqb m n (λ same. false≢true (sym e ∙ (ap test same ∙ held)))) ∙ rest
+
+  -- What is left without all of `others` are the chosen numbers, where these are the numbers for which the test doesn't hold.
+  chosen_left : (others ns : List ℕ) → ((n : ℕ) → test n ≡ true → list_any (λ w. eqb w n) others ≡ false)
+      → ((n : ℕ) → list_any (λ w. eqb w n) (rejected test ns) ≡ true → list_any (λ w. eqb w n) others ≡ true)
+      → rejected (λ n. list_any (λ w. eqb w n) others) ns ≡ chosen test ns
+  unfolding rejected chosen
+  chosen_left others [] apart within = refl
+  chosen_left others (n ∷ ns) apart within = by (chosen_left others ns apart) (test n) refl within
+    where
+      by : (((m : ℕ) → list_any (λ w. eqb w m) (rejected test ns) ≡ true → list_any (λ w. eqb w m) others ≡ true)
+          → rejected (λ m. list_any (λ w. eqb w m) others) ns ≡ chosen test ns) → (b : Bool) → test n ≡ b
+          → ((m : ℕ) → list_any (λ w. eqb w m) (cond b (rejected test ns) (n ∷ rejected test ns)) ≡ true → list_any (λ w. eqb w m) others ≡ true)
+          → rejected (λ m. list_any (λ w. eqb w m) others) (n ∷ ns) ≡ cond b (n ∷ chosen test ns) (chosen test ns)
+      by rest true e within = rejected_no (λ m. list_any (λ w. eqb w m) others) n ns (apart n e) ∙ ap (λ (l : List ℕ). n ∷ l) (rest within)
+      by rest false e within = rejected_yes (λ m. list_any (λ w. eqb w m) others) n ns
+          (within n (ap (λ (b : Bool). b || list_any (λ w. eqb w n) (rejected test ns)) (eq-eqb n n refl)))
+          ∙ rest (λ m i. within m (ap (λ (b : Bool). eqb n m || b) i ∙ or_swap (eqb n m) true))
+
+  pub chosen_without : (ns : List ℕ) → without_all (rejected test ns) ns ≡ chosen test ns
+  chosen_without ns = without_words (rejected test ns) ns ∙ chosen_left (rejected test ns) ns (λ n held. chosen_out n ns held) (λ n i. i)
