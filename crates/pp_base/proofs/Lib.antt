@@ -5,3 +5,4 @@ pub mod Owning
 pub mod Scanned
 pub mod Seated
 pub mod Parted
+pub mod Reclaiming

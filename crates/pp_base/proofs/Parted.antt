@@ -56,7 +56,8 @@ module _ (test : ℕ → Bool) where
 
   pub stays_all : (xs all : List ℕ) (kept i : ℕ) → length xs ≤ i → take kept xs ++ chosen test (drop i xs) ≡ all → take kept xs ≡ all
   unfolding chosen
-  stays_all xs all kept i le e = sym (append-nil (take kept xs)) ∙ (ap (λ (l : List ℕ). take kept xs ++ chosen test l) (sym (drop_all i xs le)) ∙ e)
+  stays_all xs all kept i le e = sym (append-nil (take kept xs))
+      ∙ (ap (λ (l : List ℕ). take kept xs ++ chosen test l) (sym (drop_all i xs le)) ∙ e)
 
   pub freed_all : (xs free all : List ℕ) (i : ℕ) → length xs ≤ i → free ++ rejected test (drop i xs) ≡ all → free ≡ all
   unfolding rejected
@@ -145,7 +146,8 @@ module _ (test : ℕ → Bool) where
     where
       by : (((m : ℕ) → list_any (λ w. eqb w m) (rejected test ns) ≡ true → list_any (λ w. eqb w m) others ≡ true)
           → rejected (λ m. list_any (λ w. eqb w m) others) ns ≡ chosen test ns) → (b : Bool) → test n ≡ b
-          → ((m : ℕ) → list_any (λ w. eqb w m) (cond b (rejected test ns) (n ∷ rejected test ns)) ≡ true → list_any (λ w. eqb w m) others ≡ true)
+          → ((m : ℕ) → list_any (λ w. eqb w m) (cond b (rejected test ns) (n ∷ rejected test ns)) ≡ true
+              → list_any (λ w. eqb w m) others ≡ true)
           → rejected (λ m. list_any (λ w. eqb w m) others) (n ∷ ns) ≡ cond b (n ∷ chosen test ns) (chosen test ns)
       by rest true e within = rejected_no (λ m. list_any (λ w. eqb w m) others) n ns (apart n e) ∙ ap (λ (l : List ℕ). n ∷ l) (rest within)
       by rest false e within = rejected_yes (λ m. list_any (λ w. eqb w m) others) n ns

@@ -39,7 +39,8 @@ module _ {E A W : Type 0} (sides : ℕ) (opens : Sizes → List ℕ) (addition :
   pub frees_on : KeptAlike sides addition → IsAlone me → me.0.known.scan.read + 1 ≡ 9 * z.passes → place ≡ walk_place z (z.passes - 1) 4
       → Allows (Holds sides opens addition z) slots id me place (λ n. n) (λ n m'. ((m'.1 ≡ []) × Reclaimed n place me.0 m'.0)
       × IsPassOf z m'.0.known)
-  frees_on alike lone full at = telling sides opens addition z slots id me place (λ n. n) (λ n m'. (m'.1 ≡ []) × Reclaimed n place me.0 m'.0)
+  frees_on alike lone full at = telling sides opens addition z slots id me place (λ n. n)
+      (λ n m'. (m'.1 ≡ []) × Reclaimed n place me.0 m'.0)
       (frees_retired sides opens addition alike z slots id place me lone full at) (λ _ m t. made_alone m t.0 t.1.made)
 
 module _ {E A W : Type 0} where
