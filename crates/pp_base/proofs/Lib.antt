@@ -5,3 +5,5 @@ pub mod Owning
 pub mod Chaining
 pub mod Scanned
 pub mod Seated
+pub mod Parted
+pub mod Reclaiming

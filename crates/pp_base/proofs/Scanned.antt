@@ -1,5 +1,5 @@
 -- The loads of a reclaim pass: that the rule allows them, with what they tell, and that the pass agrees with its seat after them.
-use Rattle.std.proofs.Common.{◌≡◌, ℕ, ◌+◌, ◌*◌, ◌<◌, List, [], map, refl, ap, ◌∙◌}
+use Rattle.std.proofs.Common.{◌≡◌, ℕ, ◌+◌, ◌-◌, ◌*◌, ◌<◌, List, [], map, refl, ap, ◌∙◌}
 use Rattle.atomic_table.specs.Table.{Me, Allows}
 use Rattle.atomic_table.specs.declared.shared.Seat.{Seat}
 use Rattle.pp_link.specs.declared.layout.Sizes.{Sizes}
@@ -9,9 +9,10 @@ use Rattle.pp_rule.specs.Orders.{scan_frontier_step, scan_walk_step}
 use Rattle.pp_rule.specs.States.{PoolState}
 use Rattle.pp_rule.specs.Rule.{number_of}
 use Rattle.pp_rule.specs.Ties.{Holds}
-use Rattle.pp_rule.specs.Steps.{IsAlone, MadeQuietStep, scanned}
+use Rattle.pp_rule.specs.Steps.{IsAlone, MadeQuietStep, scanned, Reclaimed}
 use Rattle.pp_rule.specs.Laws.{KeptAlike}
 use Rattle.pp_rule.proofs.Scanning.{scans_frontier, scans_walk}
+use Rattle.pp_rule.proofs.Freeing.{frees_retired}
 use Rattle.pp_base.specs.declared.purse.Purse.{Purse}
 use Rattle.pp_base.specs.Passes.{known, named_of, IsPassOf, Keeping}
 use Rattle.pp_base.proofs.Telling.{telling, made_alone}
@@ -34,6 +35,13 @@ module _ {E A W : Type 0} (sides : ℕ) (opens : Sizes → List ℕ) (addition :
   scans_walk_on alike p i lone low five next at = telling sides opens addition z slots id me place (λ n. n)
       (λ n m'. (m'.1 ≡ []) × MadeQuietStep scan_walk_step place n n (scanned n me.0.known) me.0 m'.0)
       (scans_walk sides opens addition alike z slots id place p i me lone low five next at) (λ _ m t. made_alone m t.0 t.1)
+
+  pub frees_on : KeptAlike sides addition → IsAlone me → me.0.known.scan.read + 1 ≡ 9 * z.passes → place ≡ walk_place z (z.passes - 1) 4
+      → Allows (Holds sides opens addition z) slots id me place (λ n. n) (λ n m'. ((m'.1 ≡ []) × Reclaimed n place me.0 m'.0)
+      × IsPassOf z m'.0.known)
+  frees_on alike lone full at = telling sides opens addition z slots id me place (λ n. n)
+      (λ n m'. (m'.1 ≡ []) × Reclaimed n place me.0 m'.0)
+      (frees_retired sides opens addition alike z slots id place me lone full at) (λ _ m t. made_alone m t.0 t.1.made)
 
 module _ {E A W : Type 0} where
   -- its reclaim pass has read one more word

@@ -15,11 +15,13 @@ use Rattle.pp_base.specs.Seats.{HasMore}
 pub some_word : (z : Sizes) (words : ℕ) → words ≡ total z → 0 < words
 some_word z words wide = omega arith
 
-module _ {E A W : Type 0} (sides : ℕ) (opens : Sizes → List ℕ) (addition : Sizes → List ℕ → PoolState E A W → Type 0) (z : Sizes) where
+module _ {E A W : Type 0} (sides : ℕ) (opens : Sizes → List ℕ) (addition : Sizes → List ℕ → PoolState E A W → Type 0)
+    (z : Sizes) where
   pub deals_on : (id : ℕ) (v : SeatView E A W) → HasMore v → Splits (Holds sides opens addition z) id v (kept_part v) (dealt_part v)
   deals_on id v more = deals sides opens addition z id v more.next more.rest more.is
 
-  pub joins_on : (id other : ℕ) (me : Me Unit (SeatView E A W)) (w : SeatView E A W) (nobody : PassState W) → IsAlone me → w.standing ≡ true
+  pub joins_on : (id other : ℕ) (me : Me Unit (SeatView E A W)) (w : SeatView E A W) (nobody : PassState W) → IsAlone me
+      → w.standing ≡ true
       → Joins (Holds sides opens addition z) id me.0 other w (both_parts me.0 w) (spent_part nobody)
   joins_on id other me w nobody lone standing = joins sides opens addition z id other me.0 w nobody lone.1 standing
 

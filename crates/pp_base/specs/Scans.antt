@@ -1,5 +1,6 @@
 -- The loads of a reclaim pass, said of its seat before and after them.
-use Rattle.std.specs.Prelude.{ℕ}
+use Rattle.std.specs.Prelude.{ℕ, Bool, cond, nat_eq, ◌||◌, List, [], ◌∷◌}
+use Rattle.std.specs.List.{list_any}
 use Rattle.atomic_table.specs.declared.shared.Seat.{Seat}
 use Rattle.pp_link.specs.declared.layout.Sizes.{Sizes}
 use Rattle.pp_link.specs.Places.{walk_place, frontier_place}
@@ -17,3 +18,17 @@ module _ {E A W : Type 0} where
   -- the walk word i of the pass p is loaded, and what it names is no longer left
   abbrev pub ScannedWalk : Sizes → ℕ → ℕ → ℕ → Seat Unit (SeatView E A W) → Seat Unit (SeatView E A W) → Type 0
   ScannedWalk z p i found s s' = MadeQuietStep scan_walk_step (walk_place z p i) found found (scanned found (known s)) (view s) (view s')
+
+-- whether one of the words, or the last one, is the number
+abbrev pub is_named : List ℕ → ℕ → ℕ → Bool
+is_named words last n = nat_eq n last || list_any (λ w. nat_eq w n) words
+
+-- the numbers of the list for which the test holds
+unfoldable pub chosen : (ℕ → Bool) → List ℕ → List ℕ
+chosen test [] = []
+chosen test (n ∷ ns) = cond (test n) (n ∷ chosen test ns) (chosen test ns)
+
+-- the others
+unfoldable pub rejected : (ℕ → Bool) → List ℕ → List ℕ
+rejected test [] = []
+rejected test (n ∷ ns) = cond (test n) (rejected test ns) (n ∷ rejected test ns)

@@ -1,8 +1,8 @@
 //! The loads of the hazard words by a reclaim pass: the frontier words of all passes first, then their walk words.
 
-ghost use Rattle.std.specs.Prelude.{◌≡◌, ◌+◌, ◌*◌, ◌<◌};
+ghost use Rattle.std.specs.Prelude.{◌≡◌, ◌+◌, ◌*◌, ◌<◌, ◌≤◌, ◌++◌, ◌∷◌, [], length, vec_capacity};
 ghost use Rattle.pp_base.specs.Passes.{known, Fits, IsSame};
-ghost use Rattle.pp_base.specs.Scans.{ScannedFrontier, ScannedWalk};
+ghost use Rattle.pp_base.specs.Scans.{ScannedFrontier, ScannedWalk, is_named, chosen, rejected};
 
 use crate::pool::{Pass, Pool};
 use crate::steps::{NOTHING, load_word};
@@ -39,4 +39,42 @@ pub fn scan_walk<S: Shape>(pool: &Pool<S>, pass: &mut Pass<S>, number: u32, word
 {
     let place = pool.layout.walk_word(number, word);
     load_word::<S, Brand>(pool, &mut pass.seat, place, NOTHING)
+}
+
+/// Enters a number where there is room.
+fn enter(numbers: &mut Vec<u32>, number: u32)
+    requires { length numbers.old.items < vec_capacity numbers.old }
+    ensures items { numbers.new.items ≡ numbers.old.items ++ number ∷ [] }
+    ensures room { vec_capacity numbers.old ≤ vec_capacity numbers.new }
+{
+    let entered = numbers.push(number);
+    prove!(entered.is_ok());
+    let _ = entered;
+}
+
+/// Whether one of the words, or the last one, is the number.
+fn is_hazard(words: &[u64], last: u64, number: u32) -> bool
+    ensures { result ≡ is_named words.now last number }
+{
+    number as u64 == last || words.contains(&(number as u64))
+}
+
+/// Leaves the retired numbers that a word names, and appends the others to the free ones. Both keep their order.
+pub fn part(retired: &mut Vec<u32>, free: &mut Vec<u32>, words: &[u64], last: u64)
+    requires room { length free.old.items + length retired.old.items ≤ vec_capacity free.old }
+    ensures retired { retired.new.items ≡ chosen (is_named words.now last) retired.old.items }
+    ensures free { free.new.items ≡ free.old.items ++ rejected (is_named words.now last) retired.old.items }
+{
+    let count = retired.len();
+    let mut kept = 0;
+    for i in 0..count {
+        let number = retired[i];
+        if is_hazard(words, last, number) {
+            retired[kept] = number;
+            kept += 1;
+        } else {
+            enter(free, number);
+        }
+    }
+    retired.truncate(kept);
 }
