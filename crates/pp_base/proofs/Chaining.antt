@@ -13,7 +13,7 @@ use Rattle.atomic_table.specs.Table.{Me, Allows}
 use Rattle.atomic_table.specs.declared.shared.Seat.{Seat}
 use Rattle.pp_link.specs.declared.layout.Sizes.{Sizes}
 use Rattle.pp_link.specs.Places.{IsNumber, total, frontier_place, cell_place}
-use Rattle.pp_rule.specs.Lists.{IsIn, times, first_of, rest_of}
+use Rattle.pp_rule.specs.Lists.{IsIn, times, rest_of}
 use Rattle.pp_rule.specs.declared.views.Chain.{Chain}
 use Rattle.pp_rule.specs.declared.views.PassState.{PassState}
 use Rattle.pp_rule.specs.declared.views.SeatView.{SeatView}

@@ -147,7 +147,7 @@ module _ (test : ℕ → Bool) where
       by : (((m : ℕ) → list_any (λ w. eqb w m) (rejected test ns) ≡ true → list_any (λ w. eqb w m) others ≡ true)
           → rejected (λ m. list_any (λ w. eqb w m) others) ns ≡ chosen test ns) → (b : Bool) → test n ≡ b
           → ((m : ℕ) → list_any (λ w. eqb w m) (cond b (rejected test ns) (n ∷ rejected test ns)) ≡ true
-              → list_any (λ w. eqb w m) others ≡ true)
+          → list_any (λ w. eqb w m) others ≡ true)
           → rejected (λ m. list_any (λ w. eqb w m) others) (n ∷ ns) ≡ cond b (n ∷ chosen test ns) (chosen test ns)
       by rest true e within = rejected_no (λ m. list_any (λ w. eqb w m) others) n ns (apart n e) ∙ ap (λ (l : List ℕ). n ∷ l) (rest within)
       by rest false e within = rejected_yes (λ m. list_any (λ w. eqb w m) others) n ns

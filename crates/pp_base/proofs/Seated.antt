@@ -1,5 +1,5 @@
 -- The steps of seats under the key of the table of their pool.
-use Rattle.std.proofs.Common.{◌≡◌, ℕ, ◌<◌, true, List, [], sym, subst, arith}
+use Rattle.std.proofs.Common.{◌≡◌, ℕ, ◌<◌, true, List, arith}
 use Rattle.atomic_table.specs.Table.{Me, Splits, Joins}
 use Rattle.pp_link.specs.declared.layout.Sizes.{Sizes}
 use Rattle.pp_link.specs.Places.{total}

@@ -1,7 +1,4 @@
-use Rattle.std.proofs.Common.{◌≡◌, ℕ, refl, subst}
-use Rattle.pp_rule.specs.Detach.{Exchanged}
-use Rattle.pp_base.specs.Passes.{known, view}
-use Rattle.pp_base.proofs.Chaining.{detaches_on, keeping_exchanged, same_exchanged}
+use Rattle.pp_base.proofs.Chaining.{detaches_on}
 use Rattle.pp_base.proofs.chains.detach.Goals as goal
 
 pub exchange_word-found-requires-clause-allows : goal.exchange_word-found-requires-clause-allows

@@ -1,6 +1,5 @@
-use Rattle.std.proofs.Common.{ℕ, ◌+◌, ◌<◌, ◌≤◌, refl, sym, ap, ◌∙◌, subst, arith}
-use Rattle.pp_link.specs.declared.layout.Sizes.{Sizes}
-use Rattle.pp_link.specs.Places.{IsNumber, cell_place}
+use Rattle.std.proofs.Common.{ℕ, ◌+◌, refl, ap, ◌∙◌, subst}
+use Rattle.pp_link.specs.Places.{cell_place}
 use Rattle.pp_rule.specs.Steps.{Invalidated, invalidated, with_chain}
 use Rattle.pp_base.specs.Passes.{known, view}
 use Rattle.pp_base.specs.Sources.{side_number}

@@ -1,4 +1,4 @@
-use Rattle.std.proofs.Common.{◌≡◌, ◌+◌, ◌<◌, ◌≤◌, ◌++◌, ◌∷◌, [], length, sym, ap, ◌∙◌, length-append, length-set, arith}
+use Rattle.std.proofs.Common.{◌<◌, ◌∷◌, [], length, sym, ◌∙◌, length-append, length-set, arith}
 use Rattle.pp_base.specs.Scans.{is_named}
 use Rattle.pp_base.proofs.Parted.{stays_kept, stays_gone, freed_kept, freed_gone, stays_all, freed_all}
 use Rattle.pp_base.proofs.scan.part.Goals.{then-is_hazard, else-is_hazard}
@@ -9,7 +9,7 @@ loop-i-preserved c = let test = is_named c.args.words.now c.args.last in let n =
     let xs = c.loop-i.retired.items in let i = c.loop-i.i in let kept = c.loop-i.kept in let before = c.loop-i.invariant in
     let below : c.loop-i.i < length c.loop-i.retired.items = omega (arith, c.loop-i-test.true, c.len-count.ensures, before.count) in
     elim c.if-is_hazard.branch [
-      then-is_hazard w ↦ rw (w.kept-is, w.retired-is, w.free-is) record {
+      | then-is_hazard w ↦ rw (w.kept-is, w.retired-is, w.free-is) record {
         stays = stays_kept test xs _ kept i n before.behind below c.index-number.ensures
             (sym c.is_hazard.ensures ∙ w.if-is_hazard.true) before.stays;
         freed = freed_kept test xs c.loop-i.free.items _ kept i n before.behind below c.index-number.ensures

@@ -1,4 +1,4 @@
-use Rattle.std.proofs.Common.{◌≡◌, ℕ, ◌+◌, ◌≤◌, ◌++◌, length, take, drop}
+use Rattle.std.proofs.Common.{◌≡◌, ◌+◌, ◌≤◌, ◌++◌, length, take, drop}
 use Rattle.std.specs.Prelude.{vec_capacity}
 use Rattle.pp_base.specs.Scans.{is_named, chosen, rejected}
 use Rattle.pp_base.proofs.scan.part.Given as goal
