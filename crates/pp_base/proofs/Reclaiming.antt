@@ -6,12 +6,14 @@ use Rattle.pp_link.specs.declared.layout.Sizes.{Sizes}
 use Rattle.pp_rule.specs.declared.views.PrivateRecord.{PrivateRecord}
 use Rattle.pp_rule.specs.declared.views.SeatView.{SeatView}
 use Rattle.pp_rule.specs.Rule.{number_of}
-use Rattle.pp_rule.specs.Steps.{IsAlone, reclaimed}
+use Rattle.pp_rule.specs.Steps.{IsAlone, still, reclaimed}
 use Rattle.pp_rule.specs.Opening.{share_of}
 use Rattle.pp_base.specs.declared.purse.Purse.{Purse}
 use Rattle.pp_base.specs.declared.purse.InHand.{InHand}
+use Rattle.pp_base.specs.Scans.{is_named, chosen, rejected}
+use Rattle.pp_base.proofs.Parted.{rejected_words, chosen_without}
 use Rattle.pp_base.specs.Passes.{known, named_of, in_hand_of, IsPassOf, Keeping}
-use Rattle.pp_rule.specs.Lists.{times}
+use Rattle.pp_rule.specs.Lists.{times, without, without_all}
 
 -- how often a number stands in two lists
 pub times_append : (n : ℕ) (xs ys : List ℕ) → times n (xs ++ ys) ≡ times n xs + times n ys
@@ -23,6 +25,10 @@ times_append n (x ∷ xs) ys = by (times_append n xs ys) (eqb x n)
         → cond b (suc (times n (xs ++ ys))) (times n (xs ++ ys)) ≡ cond b (suc (times n xs)) (times n xs) + times n ys
     by rest true = omega (arith, rest)
     by rest false = rest
+
+-- what the words and the last one leave of a list
+left_over : (words ns left : List ℕ) (found : ℕ) → left ≡ without_all words ns → without found left ≡ rejected (is_named words found) ns
+left_over words ns left found is = ap (λ (l : List ℕ). without found l) is ∙ sym (rejected_words words ns found)
 
 module _ {E A W : Type 0} where
   pub keeping_reclaimed : (sentinels : ℕ) (s s' : Seat Unit (SeatView E A W)) (z : Sizes) (number share : ℕ) (walk : List ℕ) (p p' : Purse)
@@ -48,3 +54,28 @@ module _ {E A W : Type 0} where
     chains = ap (λ q. map in_hand_of q.chains) is ∙ (k.chains ∙ sym chains);
     few = subst (λ (l : List InHand). length l ≤ 4) (sym chains) k.few;
   }
+
+  -- the retired numbers are the purse's, where no number of a chain stands behind them
+  only_retired : (sentinels : ℕ) (s : Seat Unit (SeatView E A W)) (number share : ℕ) (walk : List ℕ) (p : Purse)
+      → Keeping sentinels s number share walk p → p.spent ≡ 0 → p.retired.items ≡ (known s).retired
+  only_retired sentinels s number share walk p k none =
+      sym (take_all (length (known s).retired) p.retired.items (omega (arith, k.retired_count, none))) ∙ k.retired_are
+
+  -- what no hazard word named is what the parting rejects
+  pub gone_are : (sentinels : ℕ) (s : Seat Unit (SeatView E A W)) (number share : ℕ) (walk : List ℕ) (p : Purse) (words : List ℕ) (found : ℕ)
+      → Keeping sentinels s number share walk p → p.spent ≡ 0 → still (known s) ≡ without_all words (known s).retired
+      → rejected (is_named words found) p.retired.items ≡ without found (still (known s))
+  gone_are sentinels s number share walk p words found k none read =
+      ap (λ (l : List ℕ). rejected (is_named words found) l) (only_retired sentinels s number share walk p k none)
+      ∙ sym (left_over words (known s).retired (still (known s)) found read)
+
+  -- what the parting chooses is what stays retired
+  pub stay_are : (sentinels : ℕ) (s s' : Seat Unit (SeatView E A W)) (number share : ℕ) (walk : List ℕ) (p : Purse) (words : List ℕ) (found : ℕ)
+      (freed : List PrivateRecord)
+      → Keeping sentinels s number share walk p → p.spent ≡ 0 → still (known s) ≡ without_all words (known s).retired
+      → known s' ≡ reclaimed found freed (known s) → chosen (is_named words found) p.retired.items ≡ (known s').retired
+  stay_are sentinels s s' number share walk p words found freed k none read is =
+      ap (λ (l : List ℕ). chosen (is_named words found) l) (only_retired sentinels s number share walk p k none)
+      ∙ (sym (chosen_without (is_named words found) (known s).retired)
+      ∙ (ap (λ (l : List ℕ). without_all l (known s).retired) (sym (left_over words (known s).retired (still (known s)) found read))
+      ∙ sym (ap (λ q. q.retired) is)))

@@ -1,12 +1,13 @@
 -- The loads of a reclaim pass, said of its seat before and after them.
-use Rattle.std.specs.Prelude.{ℕ, Bool, cond, nat_eq, ◌||◌, List, [], ◌∷◌}
+use Rattle.std.specs.Prelude.{◌≡◌, ℕ, ◌-◌, Bool, cond, nat_eq, ◌||◌, List, [], ◌∷◌, ◌++◌}
 use Rattle.std.specs.List.{list_any}
 use Rattle.atomic_table.specs.declared.shared.Seat.{Seat}
 use Rattle.pp_link.specs.declared.layout.Sizes.{Sizes}
 use Rattle.pp_link.specs.Places.{walk_place, frontier_place}
 use Rattle.pp_rule.specs.declared.views.SeatView.{SeatView}
 use Rattle.pp_rule.specs.Orders.{scan_frontier_step, scan_walk_step}
-use Rattle.pp_rule.specs.Steps.{MadeQuietStep, scanned}
+use Rattle.pp_rule.specs.Steps.{MadeQuietStep, Reclaimed, scanned}
+use Rattle.pp_base.specs.declared.purse.Purse.{Purse}
 use Rattle.pp_base.specs.Passes.{known, view}
 
 module _ {E A W : Type 0} where
@@ -18,6 +19,20 @@ module _ {E A W : Type 0} where
   -- the walk word i of the pass p is loaded, and what it names is no longer left
   abbrev pub ScannedWalk : Sizes → ℕ → ℕ → ℕ → Seat Unit (SeatView E A W) → Seat Unit (SeatView E A W) → Type 0
   ScannedWalk z p i found s s' = MadeQuietStep scan_walk_step (walk_place z p i) found found (scanned found (known s)) (view s) (view s')
+
+  -- the last walk word is loaded: what no hazard word named is free
+  abbrev pub ScannedLast : Sizes → ℕ → Seat Unit (SeatView E A W) → Seat Unit (SeatView E A W) → Type 0
+  ScannedLast z found s s' = Reclaimed found (walk_place z (z.passes - 1) 4) (view s) (view s')
+
+-- these numbers came behind the free ones, and those stay retired
+pub record GotBack (freed stay : List ℕ) (p p' : Purse) : Type 0 where
+  pub free : p'.free.items ≡ p.free.items ++ freed
+  pub retired : p'.retired.items ≡ stay
+  pub spent : p'.spent ≡ p.spent
+  pub chains : p'.chains ≡ p.chains
+  pub frontier : p'.frontier ≡ p.frontier
+  pub taken : p'.taken ≡ p.taken
+  pub going : p'.going ≡ p.going
 
 -- whether one of the words, or the last one, is the number
 abbrev pub is_named : List ℕ → ℕ → ℕ → Bool

@@ -2,7 +2,9 @@
 
 ghost use Rattle.std.specs.Prelude.{◌≡◌, ◌+◌, ◌*◌, ◌<◌, ◌≤◌, ◌++◌, ◌∷◌, [], length, vec_capacity};
 ghost use Rattle.pp_base.specs.Passes.{known, Fits, IsSame};
-ghost use Rattle.pp_base.specs.Scans.{ScannedFrontier, ScannedWalk, is_named, chosen, rejected};
+ghost use Rattle.pp_rule.specs.Lists.{without, without_all};
+ghost use Rattle.pp_rule.specs.Steps.{still};
+ghost use Rattle.pp_base.specs.Scans.{ScannedFrontier, ScannedWalk, ScannedLast, GotBack, is_named, chosen, rejected};
 
 use crate::pool::{Pass, Pool};
 use crate::steps::{NOTHING, load_word};
@@ -39,6 +41,26 @@ pub fn scan_walk<S: Shape>(pool: &Pool<S>, pass: &mut Pass<S>, number: u32, word
 {
     let place = pool.layout.walk_word(number, word);
     load_word::<S, Brand>(pool, &mut pass.seat, place, NOTHING)
+}
+
+/// Loads the last hazard word of a reclaim pass, which is the last walk word. The retired records that none of the words
+/// names are free from here on; the others stay retired, in their order. `words` are the words that this reclaim pass
+/// read before, in their order.
+pub fn scan_last<S: Shape>(pool: &Pool<S>, pass: &mut Pass<S>, words: &[u64]) -> u64
+    requires fits { Fits pool.now.table.shared.table_id pool.now.layout pass.old.seat }
+    requires next { (known pass.old.seat).scan.read + 1 ≡ 9 * pool.now.layout.passes }
+    requires words { still (known pass.old.seat) ≡ without_all words.now (known pass.old.seat).retired }
+    requires flushed { pass.old.purse.spent ≡ 0 }
+    requires room { length pass.old.purse.free.items + length pass.old.purse.retired.items ≤ vec_capacity pass.old.purse.free }
+    ensures same { IsSame pass.old.seat pass.new.seat }
+    ensures made { ScannedLast pool.now.layout result pass.old.seat pass.new.seat }
+    ensures walk { pass.new.walk ≡ pass.old.walk }
+    ensures purse { GotBack (without result (still (known pass.old.seat))) (known pass.new.seat).retired pass.old.purse pass.new.purse }
+{
+    let place = pool.layout.walk_word(pool.layout.sizes().passes - 1, 4);
+    let found = load_word::<S, Brand>(pool, &mut pass.seat, place, NOTHING);
+    part(&mut pass.purse.retired, &mut pass.purse.free, words, found);
+    found
 }
 
 /// Enters a number where there is room.
