@@ -1,5 +1,5 @@
 -- The loads of a reclaim pass, said of its seat before and after them.
-use Rattle.std.specs.Prelude.{◌≡◌, ℕ, ◌-◌, Bool, cond, nat_eq, ◌||◌, List, [], ◌∷◌, ◌++◌}
+use Rattle.std.specs.Prelude.{◌≡◌, ℕ, ◌-◌, ◌≤◌, Bool, cond, nat_eq, ◌||◌, List, [], ◌∷◌, ◌++◌, vec_capacity}
 use Rattle.std.specs.List.{list_any}
 use Rattle.atomic_table.specs.declared.shared.Seat.{Seat}
 use Rattle.pp_link.specs.declared.layout.Sizes.{Sizes}
@@ -24,10 +24,12 @@ module _ {E A W : Type 0} where
   abbrev pub ScannedLast : Sizes → ℕ → Seat Unit (SeatView E A W) → Seat Unit (SeatView E A W) → Type 0
   ScannedLast z found s s' = Reclaimed found (walk_place z (z.passes - 1) 4) (view s) (view s')
 
--- these numbers came behind the free ones, and those stay retired
+-- these numbers came behind the free ones, and those stay retired; no memory is let go
 pub record GotBack (freed stay : List ℕ) (p p' : Purse) : Type 0 where
   pub free : p'.free.items ≡ p.free.items ++ freed
+  pub free_room : vec_capacity p.free ≤ vec_capacity p'.free
   pub retired : p'.retired.items ≡ stay
+  pub retired_room : vec_capacity p'.retired ≡ vec_capacity p.retired
   pub spent : p'.spent ≡ p.spent
   pub chains : p'.chains ≡ p.chains
   pub frontier : p'.frontier ≡ p.frontier

@@ -81,11 +81,14 @@ fn is_hazard(words: &[u64], last: u64, number: u32) -> bool
     number as u64 == last || words.contains(&(number as u64))
 }
 
-/// Leaves the retired numbers that a word names, and appends the others to the free ones. Both keep their order.
+/// Leaves the retired numbers that a word names, and appends the others to the free ones. Both keep their order
+/// and the memory that they have.
 pub fn part(retired: &mut Vec<u32>, free: &mut Vec<u32>, words: &[u64], last: u64)
     requires room { length free.old.items + length retired.old.items ≤ vec_capacity free.old }
     ensures retired { retired.new.items ≡ chosen (is_named words.now last) retired.old.items }
     ensures free { free.new.items ≡ free.old.items ++ rejected (is_named words.now last) retired.old.items }
+    ensures free_room { vec_capacity free.old ≤ vec_capacity free.new }
+    ensures retired_room { vec_capacity retired.new ≡ vec_capacity retired.old }
 {
     let count = retired.len();
     let mut kept = 0;

@@ -17,6 +17,8 @@ loop-i-preserved c = let test = is_named c.args.words.now c.args.last in let n =
         count = length-set xs kept n ∙ before.count;
         behind = omega (arith, before.behind);
         room = omega (arith, before.room, length-set xs kept n);
+        grown = before.grown;
+        same = before.same;
       }
       | else-is_hazard w ↦ rw (w.kept-is, w.retired-is, w.free-is, w.enter.ensures.items) record {
         stays = stays_gone test xs _ kept i n below c.index-number.ensures (sym c.is_hazard.ensures ∙ w.if-is_hazard.false) before.stays;
@@ -25,6 +27,8 @@ loop-i-preserved c = let test = is_named c.args.words.now c.args.last in let n =
         count = before.count;
         behind = omega (arith, before.behind);
         room = omega (arith, before.room, w.enter.ensures.room, length-append c.loop-i.free.items (n ∷ []));
+        grown = omega (arith, before.grown, w.enter.ensures.room);
+        same = before.same;
       }
     ]
 

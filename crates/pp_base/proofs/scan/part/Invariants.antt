@@ -13,4 +13,6 @@ invariant-loop-i l = record {
   count : length l.retired.items ≡ length l.fn.retired.items;
   behind : l.kept ≤ l.i;
   room : length l.free.items + length l.retired.items ≤ vec_capacity l.free + l.i;
+  grown : vec_capacity l.fn.free ≤ vec_capacity l.free;
+  same : vec_capacity l.retired ≡ vec_capacity l.fn.retired;
 }

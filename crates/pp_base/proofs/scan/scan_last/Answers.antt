@@ -31,6 +31,8 @@ returns-clause-purse g c = let pass = c.args.pass.now in let t = c.load_word-fou
           (gone_are g.S.Shape.SENTINELS pass.seat _ _ _ pass.purse c.args.words.now found pass.keeping c.requires.flushed c.requires.words);
       retired = c.part.ensures.retired ∙ stay_are g.S.Shape.SENTINELS pass.seat seat _ _ _ pass.purse c.args.words.now found t.0.1.freed
           pass.keeping c.requires.flushed c.requires.words (made_known seat.me t.0.1.made);
+      free_room = c.part.ensures.free_room;
+      retired_room = c.part.ensures.retired_room;
       spent = refl;
       chains = refl;
       frontier = refl;
