@@ -1,4 +1,6 @@
+pub mod Numbered
 pub mod Telling
+pub mod Named
 pub mod Steady
 pub mod Moves
 pub mod Owning

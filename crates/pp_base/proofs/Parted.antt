@@ -1,12 +1,18 @@
 -- A list is parted in place: the numbers for which a test holds move to its front, and the others go to another list.
-use Rattle.std.proofs.Common.{◌≡◌, ℕ, ◌+◌, ◌<◌, ◌≤◌, Bool, true, false, cond, eqb, ◌||◌, List, [], ◌∷◌, ◌++◌}
+use Rattle.std.proofs.Common.{◌≡◌, ℕ, ◌+◌, ◌-◌, ◌<◌, ◌≤◌, Bool, true, false, cond, eqb, ◌||◌, List, [], ◌∷◌, ◌++◌}
 use Rattle.std.proofs.Common.{length, get_or, set, take, drop}
 use Rattle.std.proofs.Common.{refl, sym, ap, ◌∙◌, eq-eqb, ne_eqb, arith}
 use Rattle.std.proofs.Math.Bool.{false≢true}
 use Rattle.std.proofs.Math.Decide.{ℕ_discrete}
 use mathlib.Core.Logic.{dite}
 use Rattle.std.specs.List.{list_any}
-use Rattle.std.proofs.lemmas.List.{take_more_set, drop-set-lt, drop_more, drop_all, append_assoc, append-nil}
+use Rattle.std.specs.List.Sorted.{IsPermutation, IsNonDecreasing, IsBinarySearchResult}
+use Rattle.std.specs.Ordering.{nat_cmp}
+use Rattle.std.proofs.Common.{Result, Ok, Err, is_ok, length-set}
+use Rattle.std.proofs.lemmas.List.{take_more_set, take_all, drop-set-lt, drop_more, drop_all, append_assoc, append-nil}
+use Rattle.std.proofs.lemmas.List.Sorted.{list_any-IsPermutation, searched}
+use Rattle.std.proofs.lemmas.List.Folds.{list_any_at, list_any_none}
+use Rattle.std.proofs.lemmas.List.Elements.{All-from_get_or}
 use Rattle.pp_rule.specs.Lists.{without, without_all}
 use Rattle.pp_base.specs.Scans.{is_named, chosen, rejected}
 
@@ -115,13 +121,32 @@ or_swap true false = refl
 or_swap false true = refl
 or_swap false false = refl
 
--- what neither the words nor the last one name
-pub rejected_words : (words ns : List ℕ) (last : ℕ) → rejected (is_named words last) ns ≡ without last (without_all words ns)
-rejected_words words ns last = sym (without_rejects last (without_all words ns)
-    ∙ (ap (rejected (λ m. eqb m last)) (without_words words ns)
-    ∙ (rejected_twice (λ n. list_any (λ w. eqb w n) words) (λ m. eqb m last) ns
-    ∙ rejected_same (λ n. list_any (λ w. eqb w n) words || eqb n last) (is_named words last)
-    (λ n. or_swap (list_any (λ w. eqb w n) words) (eqb n last)) ns)))
+-- what one more word leaves
+pub without_last : (words ns : List ℕ) (last : ℕ) → without last (without_all words ns) ≡ without_all (words ++ last ∷ []) ns
+without_last [] ns last = refl
+without_last (w ∷ words) ns last = without_last words (without w ns) last
+
+-- what none of the words names, the last one among them, in whatever order they stand
+pub rejected_words : (words all ns : List ℕ) (last : ℕ) → IsPermutation (words ++ last ∷ []) all
+    → rejected (is_named all) ns ≡ without last (without_all words ns)
+rejected_words words all ns last moved = sym (without_last words ns last ∙ (without_words (words ++ last ∷ []) ns
+    ∙ rejected_same (is_named (words ++ last ∷ [])) (is_named all)
+    (λ n. list_any-IsPermutation (λ w. eqb w n) (words ++ last ∷ []) all moved) ns))
+
+-- a word in the last place
+pub placed_last : (words : List ℕ) (last : ℕ) → 1 ≤ length words
+    → set words (length words - 1) last ≡ take (length words - 1) words ++ last ∷ []
+placed_last words last some = sym (take_all (length words - 1 + 1) (set words (length words - 1) last)
+    (omega (arith, length-set words (length words - 1) last))) ∙ take_more_set words (length words - 1) last (omega arith)
+
+-- a search in words that rise finds a number that stands among them
+pub is_found : (words : List ℕ) (n : ℕ) (found : Result ℕ ℕ) → IsNonDecreasing words → IsBinarySearchResult (λ w. nat_cmp w n) words found
+    → is_ok found ≡ is_named words n
+is_found words n (Ok i) rise at = let hit = searched words n (Ok i) at (λ k l. rise k l 0) in
+    sym (list_any_at (λ w. eqb w n) words i 0 hit.0 (eq-eqb (get_or words i 0) n hit.1))
+is_found words n (Err i) rise at = let miss = searched words n (Err i) at (λ k l. rise k l 0) in
+    sym (list_any_none (λ w. eqb w n) words (All-from_get_or (λ w. eqb w n ≡ false) words 0
+    (λ k lt. ne_eqb (get_or words k 0) n (λ e. grind (arith, miss.1 k, miss.2 k, lt, e)))))
 
 module _ (test : ℕ → Bool) where
   -- no number for which the test holds is among the others

@@ -45,12 +45,12 @@ module _ {E A W : Type 0} (sides : ℕ) (opens : Sizes → List ℕ) (addition :
 
 module _ {E A W : Type 0} where
   -- its reclaim pass has read one more word
-  pub keeping_scanned : (sentinels : ℕ) (s s' : Seat Unit (SeatView E A W)) (z : Sizes) (number share : ℕ) (walk : List ℕ) (p : Purse)
+  pub keeping_scanned : (sentinels sides : ℕ) (s s' : Seat Unit (SeatView E A W)) (z : Sizes) (number share : ℕ) (walk : List ℕ) (p : Purse)
       (found : ℕ)
-      → Keeping sentinels s number share walk p → IsAlone s'.me → IsPassOf z (known s') → known s' ≡ scanned found (known s)
-      → Keeping sentinels s' number share walk p
-  keeping_scanned sentinels s s' z number share walk p found k lone pass is =
-      keeping_steady sentinels s s' z number share walk walk p k lone pass
+      → Keeping sentinels sides s number share walk p → IsAlone s'.me → IsPassOf z (known s') → known s' ≡ scanned found (known s)
+      → Keeping sentinels sides s' number share walk p
+  keeping_scanned sentinels sides s s' z number share walk p found k lone pass is =
+      keeping_steady sentinels sides s s' z number share walk walk p k lone pass
       record {
         number = ap (λ q. q.number) is;
         sizes = ap (λ q. q.sizes) is;

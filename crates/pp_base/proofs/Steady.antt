@@ -1,10 +1,12 @@
 -- What a pass has beside its seat agrees with what the seat knows after a step at its walk words or at a private record.
-use Rattle.std.proofs.Common.{◌≡◌, ℕ, zero, suc, ◌+◌, ◌≤◌, Bool, true, false, cond, ◌&&◌, List, [], ◌∷◌, map, length, get_or, set, take, refl, sym, ap, ◌∙◌, subst}
+use Rattle.std.proofs.Common.{◌≡◌, ℕ, zero, suc, ◌+◌, ◌≤◌, Bool, true, false, cond, ◌&&◌, List, [], ◌∷◌, map, length, get_or, set, take}
+use Rattle.std.proofs.Common.{refl, sym, ap, ◌∙◌, subst, arith}
 use Rattle.std.proofs.Math.Decide.{ℕ_discrete}
 use mathlib.Core.Logic.{dite}
 use Rattle.atomic_table.specs.declared.shared.Seat.{Seat}
 use Rattle.pp_link.specs.declared.layout.Sizes.{Sizes}
-use Rattle.pp_rule.specs.Lists.{times}
+use Rattle.std.proofs.lemmas.List.{length-map}
+use Rattle.pp_rule.specs.Lists.{IsIn, times}
 use Rattle.pp_rule.specs.declared.views.WalkSlot.{WalkSlot}
 use Rattle.pp_rule.specs.declared.views.Chain.{Chain}
 use Rattle.pp_rule.specs.declared.views.PassState.{PassState}
@@ -20,7 +22,7 @@ use Rattle.pp_base.specs.declared.source.Place.{Place}
 use Rattle.pp_base.specs.declared.source.Place.TheVariants.{Head, Walk}
 use Rattle.pp_base.specs.Sources.{side_number, learning_at}
 use Rattle.pp_base.proofs.Telling.{made_alone, made_known}
-use Rattle.pp_base.specs.Passes.{known, named_of, in_hand_of, IsPassOf, IsSame, Keeping}
+use Rattle.pp_base.specs.Passes.{known, named_of, in_hand_of, IsPassOf, IsSame, HasRoom, Keeping}
 
 -- the names where one walk word has another slot
 named_set : (ws : List WalkSlot) (i : ℕ) (w : WalkSlot) → map named_of (set ws i w) ≡ set (map named_of ws) i w.named
@@ -44,10 +46,10 @@ module _ {E A W : Type 0} where
     pub frontier : (known s').frontier ≡ (known s).frontier
     pub chains : (known s').chains ≡ (known s).chains
 
-  pub keeping_steady : (sentinels : ℕ) (s s' : Seat Unit (SeatView E A W)) (z : Sizes) (number share : ℕ) (walk walk' : List ℕ) (p : Purse)
-      → Keeping sentinels s number share walk p
-      → IsAlone s'.me → IsPassOf z (known s') → SameLists s s' → map named_of (known s').walk ≡ walk' → Keeping sentinels s' number share walk' p
-  keeping_steady sentinels s s' z number share walk walk' p k lone pass same walk_is = record {
+  pub keeping_steady : (sentinels sides : ℕ) (s s' : Seat Unit (SeatView E A W)) (z : Sizes) (number share : ℕ) (walk walk' : List ℕ) (p : Purse)
+      → Keeping sentinels sides s number share walk p
+      → IsAlone s'.me → IsPassOf z (known s') → SameLists s s' → map named_of (known s').walk ≡ walk' → Keeping sentinels sides s' number share walk' p
+  keeping_steady sentinels sides s s' z number share walk walk' p k lone pass same walk_is = record {
     lone = lone;
     pass = subst (λ (y : Sizes). IsPassOf y (known s')) (sym pass.sizes) pass;
     number_is = same.number ∙ k.number_is;
@@ -59,6 +61,11 @@ module _ {E A W : Type 0} where
     retired_count = subst (λ (l : List ℕ). length p.retired.items ≡ length l + p.spent) (sym same.retired_are) k.retired_count;
     chains = ap (λ (l : List Chain). map in_hand_of l) same.chains ∙ k.chains;
     few = k.few;
+    counted = let was = k.counted in
+        let count = sym (length-map (known s').owned number_of) ∙ (ap (λ (l : List ℕ). length l) same.owned ∙ length-map (known s).owned number_of) in
+        omega (arith, was, count);
+    chained = λ c i. k.chained c (subst (λ (l : List Chain). IsIn c l) same.chains i);
+    room = subst (λ (y : Sizes). HasRoom y p) (sym same.sizes) k.room;
   }
 
   -- the pass is known as before
@@ -85,61 +92,61 @@ module _ {E A W : Type 0} where
   }
 
   -- its walk word i was stored
-  pub keeping_stored : (sentinels : ℕ) (s s' : Seat Unit (SeatView E A W)) (z : Sizes) (number share : ℕ) (walk : List ℕ) (p : Purse)
+  pub keeping_stored : (sentinels sides : ℕ) (s s' : Seat Unit (SeatView E A W)) (z : Sizes) (number share : ℕ) (walk : List ℕ) (p : Purse)
       (i : ℕ) (w : WalkSlot) (own : W)
-      → Keeping sentinels s number share walk p → IsAlone s'.me → IsPassOf z (known s')
-      → known s' ≡ record (known s) { walk = set (known s).walk i w; own = own } → Keeping sentinels s' number share (set walk i w.named) p
-  keeping_stored sentinels s s' z number share walk p i w own k lone pass is = keeping_steady sentinels s s' z number share walk
+      → Keeping sentinels sides s number share walk p → IsAlone s'.me → IsPassOf z (known s')
+      → known s' ≡ record (known s) { walk = set (known s).walk i w; own = own } → Keeping sentinels sides s' number share (set walk i w.named) p
+  keeping_stored sentinels sides s s' z number share walk p i w own k lone pass is = keeping_steady sentinels sides s s' z number share walk
       (set walk i w.named) p k lone pass
       (lists_walk s s' i w own is) (ap (λ q. map named_of q.walk) is ∙ (named_set (known s).walk i w ∙ ap (λ
       (ns : List ℕ). set ns i w.named) k.walk_is))
 
   -- more is known of the record that its walk word i names
-  pub keeping_learnt : (sentinels : ℕ) (s s' : Seat Unit (SeatView E A W)) (z : Sizes) (number share : ℕ) (walk : List ℕ) (p : Purse)
+  pub keeping_learnt : (sentinels sides : ℕ) (s s' : Seat Unit (SeatView E A W)) (z : Sizes) (number share : ℕ) (walk : List ℕ) (p : Purse)
       (i : ℕ) (w : WalkSlot)
-      → Keeping sentinels s number share walk p → IsAlone s'.me → IsPassOf z (known s') → w.named ≡ (slot (known s) i).named
-      → known s' ≡ with_walk i w (known s) → Keeping sentinels s' number share walk p
-  keeping_learnt sentinels s s' z number share walk p i w k lone pass named is = keeping_steady sentinels s s' z number share walk walk p k lone pass
+      → Keeping sentinels sides s number share walk p → IsAlone s'.me → IsPassOf z (known s') → w.named ≡ (slot (known s) i).named
+      → known s' ≡ with_walk i w (known s) → Keeping sentinels sides s' number share walk p
+  keeping_learnt sentinels sides s s' z number share walk p i w k lone pass named is = keeping_steady sentinels sides s s' z number share walk walk p k lone pass
       (lists_walk s s' i w (known s).own is) (ap (λ q. map named_of q.walk) is ∙ (named_same (known s).walk i w named ∙ k.walk_is))
 
   -- nothing more is known of it
-  pub keeping_idle : (sentinels : ℕ) (s s' : Seat Unit (SeatView E A W)) (z : Sizes) (number share : ℕ) (walk : List ℕ) (p : Purse)
-      → Keeping sentinels s number share walk p → IsAlone s'.me → IsPassOf z (known s') → known s' ≡ known s
-      → Keeping sentinels s' number share walk p
-  keeping_idle sentinels s s' z number share walk p k lone pass is = keeping_steady sentinels s s' z number share walk walk p k lone pass
+  pub keeping_idle : (sentinels sides : ℕ) (s s' : Seat Unit (SeatView E A W)) (z : Sizes) (number share : ℕ) (walk : List ℕ) (p : Purse)
+      → Keeping sentinels sides s number share walk p → IsAlone s'.me → IsPassOf z (known s') → known s' ≡ known s
+      → Keeping sentinels sides s' number share walk p
+  keeping_idle sentinels sides s s' z number share walk p k lone pass is = keeping_steady sentinels sides s s' z number share walk walk p k lone pass
       (lists_idle s s' is) (ap (λ q. map named_of q.walk) is ∙ k.walk_is)
 
 module _ {E A W : Type 0} where
   -- the pass has loaded a link, and perhaps learnt it
-  pub keeping_loaded : (sentinels : ℕ) (s s' : Seat Unit (SeatView E A W)) (z : Sizes) (number share : ℕ) (walk : List ℕ) (p : Purse)
+  pub keeping_loaded : (sentinels sides : ℕ) (s s' : Seat Unit (SeatView E A W)) (z : Sizes) (number share : ℕ) (walk : List ℕ) (p : Purse)
       (frozen : ℕ → Bool) (at : Place) (side : Side) (n : ℕ)
-      → Keeping sentinels s number share walk p → IsAlone s'.me → IsPassOf z (known s') → known s' ≡ learning_at frozen at side n (known s)
-      → Keeping sentinels s' number share walk p
-  keeping_loaded sentinels s s' z number share walk p frozen
-      (Head h) side n k lone pass is = keeping_idle sentinels s s' z number share walk p k lone pass is
-  keeping_loaded sentinels s s' z number share walk p frozen (Walk i) side n k lone pass is = by (frozen n && (slot (known s) i).held) is
+      → Keeping sentinels sides s number share walk p → IsAlone s'.me → IsPassOf z (known s') → known s' ≡ learning_at frozen at side n (known s)
+      → Keeping sentinels sides s' number share walk p
+  keeping_loaded sentinels sides s s' z number share walk p frozen
+      (Head h) side n k lone pass is = keeping_idle sentinels sides s s' z number share walk p k lone pass is
+  keeping_loaded sentinels sides s s' z number share walk p frozen (Walk i) side n k lone pass is = by (frozen n && (slot (known s) i).held) is
     where
       by : (b : Bool) → known s' ≡ cond b (with_walk i (record (slot (known s) i) {
         learnt = (side_number side, n) ∷ (slot
             (known s) i).learnt;
       }) (known s)) (known s)
-          → Keeping sentinels s' number share walk p
-      by false e = keeping_idle sentinels s s' z number share walk p k lone pass e
-      by true e = keeping_learnt sentinels s s' z number share walk p i (record (slot (known s) i) {
+          → Keeping sentinels sides s' number share walk p
+      by false e = keeping_idle sentinels sides s s' z number share walk p k lone pass e
+      by true e = keeping_learnt sentinels sides s s' z number share walk p i (record (slot (known s) i) {
         learnt = (side_number side, n) ∷ (slot
             (known s) i).learnt;
       }) k lone pass refl e
 
   -- the pass has loaded a link again, and perhaps holds the record that it leads to
-  pub keeping_confirmed : (sentinels : ℕ) (s s' : Seat Unit (SeatView E A W)) (z : Sizes) (number share : ℕ) (walk : List ℕ) (p : Purse)
+  pub keeping_confirmed : (sentinels sides : ℕ) (s s' : Seat Unit (SeatView E A W)) (z : Sizes) (number share : ℕ) (walk : List ℕ) (p : Purse)
       (i first n place : ℕ)
-      → Keeping sentinels s number share walk p → s'.me.1 ≡ [] → IsPassOf z (known s') → (slot (known s) i).named ≡ target first
-      → Confirmed i first n place s.me.0 s'.me.0 → Keeping sentinels s' number share walk p
-  keeping_confirmed sentinels s s' z number share walk p i first n place k none pass named c = dite (ℕ_discrete n first)
-      (λ e. let held = c.same e in keeping_learnt sentinels s s' z number share walk p i (holding (target first) held.0 held.1.0) k
+      → Keeping sentinels sides s number share walk p → s'.me.1 ≡ [] → IsPassOf z (known s') → (slot (known s) i).named ≡ target first
+      → Confirmed i first n place s.me.0 s'.me.0 → Keeping sentinels sides s' number share walk p
+  keeping_confirmed sentinels sides s s' z number share walk p i first n place k none pass named c = dite (ℕ_discrete n first)
+      (λ e. let held = c.same e in keeping_learnt sentinels sides s s' z number share walk p i (holding (target first) held.0 held.1.0) k
       (made_alone s'.me none held.1.1) pass (sym named)
       (made_known s'.me held.1.1))
-      (λ ne. keeping_idle sentinels s s' z number share walk p k (made_alone s'.me none (c.other ne)) pass (made_known s'.me (c.other ne)))
+      (λ ne. keeping_idle sentinels sides s s' z number share walk p k (made_alone s'.me none (c.other ne)) pass (made_known s'.me (c.other ne)))
 
   -- it is the same pass
   pub same_known : (s s' : Seat Unit (SeatView E A W)) (q : PassState W) → known s' ≡ q → q.number ≡ (known s).number

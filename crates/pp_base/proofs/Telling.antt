@@ -1,12 +1,12 @@
 -- What a step tells of its pass beside what its kind says: it is still a pass of the pool, alone in its seat.
-use Rattle.std.proofs.Common.{◌≡◌, ℕ, ◌<◌, true, List, [], length, get_or, refl, sym, subst}
+use Rattle.std.proofs.Common.{◌≡◌, ℕ, ◌<◌, ◌≤◌, true, List, [], length, get_or, refl, sym, subst}
 use Rattle.std.proofs.Math.Decide.{ℕ_discrete}
 use mathlib.Core.Logic.{dite}
 use Rattle.atomic_table.specs.Table.{Me, Allows}
 use Rattle.atomic_table.proofs.Lists.{set_here}
 use Rattle.pp_link.specs.declared.layout.Sizes.{Sizes}
 use Rattle.pp_link.specs.Places.{IsNumber}
-use Rattle.pp_rule.specs.Lists.{IsIn, OnceBy}
+use Rattle.pp_rule.specs.Lists.{IsIn, OnceBy, Once}
 use Rattle.pp_rule.specs.declared.views.PassState.{PassState}
 use Rattle.pp_rule.specs.declared.views.SeatView.{SeatView}
 use Rattle.pp_rule.specs.Views.{slot, all_of}
@@ -16,7 +16,8 @@ use Rattle.pp_rule.specs.Ties.{Holds}
 use Rattle.pp_rule.specs.Steps.{IsAlone, MadeStep, Confirmed}
 use Rattle.pp_rule.proofs.Put.{at_below}
 use Rattle.pp_rule.proofs.Made.{alone_after, known_after}
-use Rattle.pp_base.specs.Passes.{IsPassOf}
+use Rattle.pp_base.specs.Passes.{numbers_of, IsPassOf}
+use Rattle.pp_base.proofs.Numbered.{numbers_fit}
 
 module _ {E A W : Type 0} where
   -- A step that is allowed under the sizes of the pool, where the table has no slots, is allowed under the key of its table and
@@ -36,15 +37,18 @@ module _ {E A W : Type 0} where
   pass_of sides z words g q b low is sizes = let p : ℕ = q.number in record {
     pass = low;
     sizes = sizes;
+    within = b.within;
     five = subst (λ (v : PassState W). length v.walk ≡ 5) is (b.hazards.five p low);
     four = subst (λ (v : PassState W). length v.frontier ≡ 4) is (b.hazards.four p low);
     held = λ i lt. subst (λ (v : PassState W). (slot v i).held ≡ true → IsNumber z (slot v i).named) is (λ on. (b.hazards.held p i low lt on).number);
     owned = λ d. subst (λ (v : PassState W). IsIn d v.owned → IsNumber z d.number) is (λ i. (b.numbers.owned_to p d low i).0);
     owned_once = subst (λ (v : PassState W). OnceBy number_of v.owned) is (b.numbers.owned_once p low);
     retired_are = λ n. subst (λ (v : PassState W). IsIn n v.retired → IsNumber z n) is (λ i. (b.numbers.retired_to p n low i).0);
+    retired_once = subst (λ (v : PassState W). Once v.retired) is (b.numbers.retired_once p low);
     left = λ n. subst (λ (v : PassState W). IsIn n v.scan.left → IsNumber z n) is (λ i. (b.scans.left p n low i).0);
     guard = λ c. subst (λ (v : PassState W). IsIn c v.chains → c.guard < 4) is (b.chains.guard p c low);
     members = λ c n. subst (λ (v : PassState W). IsIn c v.chains → IsIn n c.records → IsNumber z n) is (λ i m. (b.chains.members p n c low i m).0);
+    fit = subst (λ (v : PassState W). length (numbers_of v) ≤ z.records) is (numbers_fit sides z words g p b low);
   }
 
   -- The rule after the step gives it, where the step tells that the pass is alone in its seat.

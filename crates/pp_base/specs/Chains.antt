@@ -4,6 +4,7 @@ use Rattle.atomic_table.specs.declared.shared.Seat.{Seat}
 use Rattle.pp_link.specs.declared.layout.Sizes.{Sizes}
 use Rattle.pp_link.specs.Places.{frontier_place, cell_place}
 use Rattle.pp_rule.specs.Lists.{rest_of}
+use Rattle.pp_rule.specs.declared.views.WalkSlot.{WalkSlot}
 use Rattle.pp_rule.specs.declared.views.Chain.{Chain}
 use Rattle.pp_rule.specs.declared.views.PassState.{PassState}
 use Rattle.pp_rule.specs.declared.views.SeatView.{SeatView}
@@ -32,7 +33,7 @@ module _ {E A W : Type 0} where
 
 -- no records in hand
 abbrev pub no_chain : Chain
-no_chain = record { records = []; guard = 0; links = []; valid = [] }
+no_chain = record { records = []; guard = 0; frontier = 0; links = []; valid = [] }
 
 -- the chain in hand of the pass with this index, the oldest one the first
 abbrev pub chain_at : {W : Type 0} → PassState W → ℕ → Chain
@@ -82,9 +83,9 @@ pub record MayTake (hit : Type 0) (h : InHand) (p p' : Purse) : Type 0 where
 
 module _ {E A W : Type 0} where
   -- the chain that the shape says is detached at a source, where its link was as it is expected
-  abbrev pub DetachedAt : Sizes → (PassState W → ℕ → ℕ → ℕ → Chain) → Place → Side → ℕ → ℕ → ℕ → ℕ → Seat Unit (SeatView E A W)
+  abbrev pub DetachedAt : Sizes → (List WalkSlot → W → ℕ → ℕ → ℕ → Chain) → Place → Side → ℕ → ℕ → ℕ → ℕ → Seat Unit (SeatView E A W)
       → Seat Unit (SeatView E A W) → Type 0
-  DetachedAt z chain at side guard first new found s s' = Exchanged (chain (known s) guard first new) first new found
+  DetachedAt z chain at side guard first new found s s' = Exchanged (chain (known s).walk (known s).own guard first new) first new found
       (source_place z (known s) at side) (view s) (view s')
 
   -- INVALID is set in a link of the record n of the chain with the index k

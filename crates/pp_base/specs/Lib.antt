@@ -2,6 +2,7 @@ pub mod Passes
 pub mod Sources
 pub mod Private
 pub mod Made
+pub mod Named
 pub mod Row
 pub mod RowOpens
 pub mod RowLaws

@@ -1,5 +1,5 @@
 -- The rule of a row of three records, of which a pass may detach the first two.
-use Rattle.std.specs.Prelude.{◌≡◌, ◌≢◌, ◌⊎◌, ℕ, ◌*◌, ◌<◌, ◌≤◌, Bool, true, cond, nat_eq, List, [], ◌∷◌}
+use Rattle.std.specs.Prelude.{◌≡◌, ◌≢◌, ◌⊎◌, ℕ, ◌*◌, ◌<◌, ◌≤◌, Bool, true, cond, nat_eq, List, [], ◌∷◌, slice_index_or}
 use Rattle.pp_link.specs.declared.layout.Sizes.{Sizes}
 use Rattle.pp_link.specs.Links.{flag_bit}
 use Rattle.pp_link.specs.Places.{IsNumber, head_place}
@@ -8,10 +8,9 @@ use Rattle.pp_model.specs.declared.Pair.{Pair}
 use Rattle.pp_rule.specs.Lists.{IsIn}
 use Rattle.pp_rule.specs.Orders.{log_of, placed_by}
 use Rattle.pp_rule.specs.declared.views.Chain.{Chain}
-use Rattle.pp_rule.specs.declared.views.PassState.{PassState}
-use Rattle.pp_rule.specs.Views.{slot, guarding}
+use Rattle.pp_rule.specs.declared.views.WalkSlot.{WalkSlot}
+use Rattle.pp_rule.specs.Views.{blank}
 use Rattle.pp_rule.specs.States.{attached, IsLinked, PoolState, Stays}
-use Rattle.pp_rule.specs.Steps.{IsUnused}
 
 -- the head 0 leads to the record 1, and every other head is nil
 abbrev pub row_head : ℕ → ℕ
@@ -54,34 +53,31 @@ module _ {E A W : Type 0} where
     -- while a record is attached or in hand, its link is as it was, or has INVALID beside
     pub links : (n : ℕ) → 1 ≤ n → n ≤ 3 → IsLinked (g.status n) → Stays (row_link n) (cell_word words z n 2)
 
-module _ {W : Type 0} where
-  -- the pass holds the record n in a walk word, and has learnt this word of its left link
-  pub record Learnt (q : PassState W) (n word : ℕ) : Type 0 where
-    pub index : ℕ
-    pub index_low : index < 5
-    pub held : (slot q index).held ≡ true
-    pub named : (slot q index).named ≡ n
-    pub learnt : IsIn (0, word) (slot q index).learnt
+-- the record n is held in one of these walk words, and this word of its left link was learnt
+pub record Learnt (walk : List WalkSlot) (n word : ℕ) : Type 0 where
+  pub index : ℕ
+  pub index_low : index < 5
+  pub held : (slice_index_or walk index blank).held ≡ true
+  pub named : (slice_index_or walk index blank).named ≡ n
+  pub learnt : IsIn (0, word) (slice_index_or walk index blank).learnt
 
-  -- the first two records, which the head leads through
-  abbrev pub row_chain : PassState W → ℕ → ℕ → ℕ → Chain
-  row_chain q guard first new = record {
-    records = 1 ∷ 2 ∷ [];
-    guard = guard;
-    links = record { number = 1; side = 0; word = 33 } ∷ record { number = 2; side = 0; word = 49 } ∷ [];
-    valid = (1, 0) ∷ (2, 0) ∷ [];
-  }
+-- the first two records, which the head leads through
+abbrev pub row_chain : ℕ → Chain
+row_chain guard = record {
+  records = 1 ∷ 2 ∷ [];
+  guard = guard;
+  frontier = 3;
+  links = record { number = 1; side = 0; word = 33 } ∷ record { number = 2; side = 0; word = 49 } ∷ [];
+  valid = (1, 0) ∷ (2, 0) ∷ [];
+}
 
-  -- A pass that has learnt their links, and names the record 3 in a frontier word that guards no chain, may lead the head there.
-  pub record MayCut (z : Sizes) (q : PassState W) (place guard first new : ℕ) : Type 0 where
-    pub place_is : place ≡ head_place z 0
-    pub first_is : first ≡ 16
-    pub new_is : new ≡ 48
-    pub first_learnt : Learnt q 1 33
-    pub second_learnt : Learnt q 2 49
-    pub guard_low : guard < 4
-    pub named : guarding q guard ≡ 3
-    pub unused : IsUnused guard q
+-- A pass that has learnt their links may lead the head to the record 3.
+pub record MayCut (z : Sizes) (walk : List WalkSlot) (place first new : ℕ) : Type 0 where
+  pub place_is : place ≡ head_place z 0
+  pub first_is : first ≡ 16
+  pub new_is : new ≡ 48
+  pub first_learnt : Learnt walk 1 33
+  pub second_learnt : Learnt walk 2 49
 
 -- Its contents are none, and the record 3 alone is live.
 abbrev pub row_pairs : Sizes → List ℕ → List Pair

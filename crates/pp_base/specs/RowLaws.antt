@@ -1,6 +1,6 @@
 -- A row meets the laws of a shape.
-use Rattle.std.proofs.Common.{◌≡◌, ◌≢◌, ◌⊎◌, inl, inr, ⊎_elim, ℕ, zero, suc, ◌+◌, ◌<◌, ◌≤◌, Bool, true, false, cond, eqb}
-use Rattle.std.proofs.Common.{List, [], ◌∷◌, set, get_or, refl, sym, ap, ◌∙◌, subst, arith, ne_eqb}
+use Rattle.std.proofs.Common.{◌≡◌, ◌≢◌, ◌⊎◌, inl, inr, ⊎_elim, ℕ, zero, suc, ◌+◌, ◌*◌, ◌<◌, ◌≤◌, Bool, true, false, cond, eqb}
+use Rattle.std.proofs.Common.{List, [], ◌∷◌, set, get_or, length, take, refl, sym, ap, ◌∙◌, subst, arith, ne_eqb}
 use Rattle.std.proofs.Math.Bool.{false≢true}
 use Rattle.std.proofs.Math.Decide.{ℕ_discrete}
 use Rattle.std.proofs.lemmas.Bool.{cases_lt}
@@ -18,6 +18,7 @@ use Rattle.pp_rule.specs.declared.views.Chain.{Chain}
 use Rattle.pp_rule.specs.declared.views.ChainLink.{ChainLink}
 use Rattle.pp_rule.specs.declared.views.LoggedStep.{LoggedStep}
 use Rattle.pp_rule.specs.declared.views.PassState.{PassState}
+use Rattle.pp_rule.specs.declared.views.WalkSlot.{WalkSlot}
 use Rattle.pp_rule.specs.Views.{guarding}
 use Rattle.pp_rule.specs.States.{RecordState, attached, in_hand, retired, owned, shelved, IsUsed, IsLinked, PoolState, Stays, SameTarget}
 use Rattle.pp_rule.specs.Rule.{Base}
@@ -26,7 +27,8 @@ use Rattle.pp_rule.specs.Steps.{IsUnused}
 use Rattle.pp_rule.specs.Detach.{Detaches, Detached}
 use Rattle.pp_rule.specs.Opening.{OpensInto}
 use Rattle.pp_rule.specs.Laws.{HeadsOpen, LinksOpen, Freezes, MetAtOpening, KeptAlike, KeptCleared, KeptInvalid}
-use Rattle.pp_rule.specs.Laws.{MayDetach, KeptDetached, Closes}
+use Rattle.pp_rule.specs.Paths.{links_of, led_to, IsChained}
+use Rattle.pp_rule.specs.Laws.{Chained, MayDetach, KeptDetached, Closes}
 use Rattle.pp_rule.proofs.Put.{in_nil, in_cases, in_one}
 use Rattle.pp_rule.proofs.Histories.{quiet_log, quiet_placed}
 use Rattle.pp_base.specs.Row.{row_head, row_link, row_field, has_flag, IsRow, IsWhole, IsCut, row_chain, MayCut}
@@ -35,6 +37,24 @@ use Rattle.pp_base.specs.RowOpens.{opening_head, opening_cell}
 
 pub row_sided : (1 ≤ 1) × (1 ≤ 2)
 row_sided = (omega arith, omega arith)
+
+pub row_fits : 3 ≤ 8
+row_fits = omega arith
+
+-- the chain in the order in which its links lead
+first_two_chained : (guard : ℕ) → IsChained 1 1 (row_chain guard)
+unfolding links_of led_to
+first_two_chained guard = record {
+  links_are = refl;
+  records_are = refl;
+  reached = reached;
+  valid = λ l other i. other i;
+}
+  where
+    reached : (k : ℕ) → k < 2 → k < 1 * (1 + length (led_to 3 (take k (row_chain guard).links)))
+    reached zero lt = omega arith
+    reached (suc zero) lt = omega arith
+    reached (suc (suc k)) lt = absurd (omega arith)
 
 other_head : (h : ℕ) → h ≢ 0 → row_head h ≡ 0
 other_head h ne = ap (λ (b : Bool). cond b 16 0) (ne_eqb h 0 ne)
@@ -139,11 +159,19 @@ abbrev IsLinkOf : Sizes → List ℕ → ChainLink → Type 0
 IsLinkOf z words l = IsIn l.number (1 ∷ 2 ∷ []) × (l.side < 1) × SameTarget l.word (cell_word words z l.number (2 + l.side))
 
 module _ {W : Type 0} where
-  abbrev FirstTwo : PassState W → ℕ → ℕ → ℕ → Chain
-  FirstTwo q guard first new = row_chain q guard first new
+  abbrev FirstTwo : List WalkSlot → W → ℕ → ℕ → ℕ → Chain
+  FirstTwo walk own guard first new = row_chain guard
 
-  abbrev May : Sizes → PassState W → ℕ → ℕ → ℕ → ℕ → Type 0
-  May z q place guard first new = MayCut z q place guard first new
+  abbrev May : Sizes → List WalkSlot → W → ℕ → ℕ → ℕ → Type 0
+  May z walk own place first new = MayCut z walk place first new
+
+module _ {W : Type 0} where
+  pub row_chained : Chained {W = W} 1 FirstTwo May
+  row_chained z walk own place guard first new may = record {
+    chained = subst (λ (n : ℕ). IsChained 1 (target n) (row_chain guard)) (sym may.first_is) (first_two_chained guard);
+    guard_is = refl;
+    frontier_is = sym (ap target may.new_is);
+  }
 
 module _ {E A : Type 0} where
   no_log : (order : List (LoggedStep E A)) → order ≡ [] → log_of order ≡ []
@@ -281,7 +309,7 @@ module _ {E A W : Type 0} where
   -- Both links are as they opened, the head 0 alone leads to the first record, and the left link of the record 3 is nil.
   cuts : (z : Sizes) (words : List ℕ) (g : PoolState E A W) (q : PassState W) (guard : ℕ) → Base 1 z words g → IsRow z words g
       → IsWhole z words g → guard < 4 → guarding q guard ≡ 3 → IsUnused guard q
-      → Detaches 1 z words g q (row_chain q guard 16 48) (head_place z 0) 3 48
+      → Detaches 1 z words g q (row_chain guard) (head_place z 0) 3 48
   cuts z words g q guard b r w four named unused = record {
     members = each_of_two (λ n. IsNumber z n × (g.status n ≡ attached))
         ((omega arith, omega (arith, b.within.some_records)), w.first) ((omega arith, omega (arith, b.within.some_records)), w.second);
@@ -339,15 +367,15 @@ module _ {E A W : Type 0} where
           n number.0 (r.no_other n number is) out
 
   pub row_detaches : MayDetach 1 Adds FirstTwo May
-  row_detaches z words g q place guard first new b r pass is may same =
-      subst (λ (n : ℕ). Detaches 1 z words g q (row_chain q guard first n) place (target n) n) (sym may.new_is)
-      (subst (λ (k : ℕ). Detaches 1 z words g q (row_chain q guard first 48) k 3 48) (sym may.place_is)
+  row_detaches z words g q place guard first new b r pass is may four named unused same =
+      subst (λ (n : ℕ). Detaches 1 z words g q (row_chain guard) place (target n) n) (sym may.new_is)
+      (subst (λ (k : ℕ). Detaches 1 z words g q (row_chain guard) k 3 48) (sym may.place_is)
       (cuts z words g q guard b r (whole_at z words g r (head_at z words place first may.place_is may.first_is same))
-      may.guard_low may.named may.unused))
+      four (named ∙ ap target may.new_is) unused))
 
   -- After it the head leads to the record 3, and the first two are in hand with their links as they were.
   cut_row : (z : Sizes) (words : List ℕ) (g g' : PoolState E A W) (q : PassState W) (guard : ℕ) → Base 1 z words g → IsRow z words g
-      → IsWhole z words g → Detached z g g' q (row_chain q guard 16 48) → IsRow z (set words (head_place z 0) 48) g'
+      → IsWhole z words g → Detached z g g' q (row_chain guard) → IsRow z (set words (head_place z 0) 48) g'
   cut_row z words g g' q guard b r w d =
       let stored = head_stored z words 48 b.wide 0 (omega (arith, b.within.some_heads)) in
       record {

@@ -1,5 +1,5 @@
 -- The loads of a reclaim pass, said of its seat before and after them.
-use Rattle.std.specs.Prelude.{◌≡◌, ℕ, ◌-◌, ◌≤◌, Bool, cond, nat_eq, ◌||◌, List, [], ◌∷◌, ◌++◌, vec_capacity}
+use Rattle.std.specs.Prelude.{◌≡◌, ℕ, ◌-◌, ◌≤◌, Bool, cond, nat_eq, List, [], ◌∷◌, ◌++◌, vec_capacity}
 use Rattle.std.specs.List.{list_any}
 use Rattle.atomic_table.specs.declared.shared.Seat.{Seat}
 use Rattle.pp_link.specs.declared.layout.Sizes.{Sizes}
@@ -36,9 +36,9 @@ pub record GotBack (freed stay : List ℕ) (p p' : Purse) : Type 0 where
   pub taken : p'.taken ≡ p.taken
   pub going : p'.going ≡ p.going
 
--- whether one of the words, or the last one, is the number
-abbrev pub is_named : List ℕ → ℕ → ℕ → Bool
-is_named words last n = nat_eq n last || list_any (λ w. nat_eq w n) words
+-- whether one of the words is the number
+abbrev pub is_named : List ℕ → ℕ → Bool
+is_named words n = list_any (λ w. nat_eq w n) words
 
 -- the numbers of the list for which the test holds
 unfoldable pub chosen : (ℕ → Bool) → List ℕ → List ℕ

@@ -1,8 +1,11 @@
 //! The steps at the chains that a pass detached.
 
 ghost use Rattle.std.specs.Prelude.{◌≡◌, ◌<◌, [], length, vec_capacity};
+ghost use Rattle.pp_link.specs.Links.{word_of};
 ghost use Rattle.pp_rule.specs.Lists.{IsIn};
-ghost use Rattle.pp_base.specs.Passes.{known, in_hand_of, Fits, IsSame};
+ghost use Rattle.pp_rule.specs.Views.{guarding};
+ghost use Rattle.pp_rule.specs.Steps.{IsUnused};
+ghost use Rattle.pp_base.specs.Passes.{known, Fits, IsSame};
 ghost use Rattle.pp_base.specs.Sources.{side_number, source_place, IsReadable};
 ghost use Rattle.pp_base.specs.Chains.{chain_at, spent_numbers, SetAside, LetGo, InvalidatedAt, RetiredOldest};
 ghost use Rattle.pp_base.specs.Chains.{DetachedAt, MayTake};
@@ -12,6 +15,7 @@ use crate::pool::{Pass, Pool};
 use crate::purse::InHand;
 use crate::source::{Place, Side};
 use crate::steps::{About, NOTHING, exchange_word, set_bits, store_word};
+use pp_link::Link;
 use pp_rule::Shape;
 use std::marker::Brand;
 
@@ -25,29 +29,34 @@ pub fn detach<S: Shape>(
     pass: &mut Pass<S>,
     at: Place,
     side: Side,
-    chain: InHand,
-    first: u64,
-    new: u64,
+    word: u8,
+    first: Link,
+    new: Link,
 ) -> u64
     requires fits { Fits pool.now.table.shared.table_id pool.now.layout pass.old.seat }
     requires readable { IsReadable S.SIDES pool.now.layout (known pass.old.seat) at side }
-    requires may { S.may_detach pool.now.layout (known pass.old.seat) (source_place pool.now.layout (known pass.old.seat) at side) chain.guard first new }
-    requires chain { in_hand_of (S.chain (known pass.old.seat) chain.guard first new) ≡ chain }
+    requires may { S.may_detach pool.now.layout (known pass.old.seat).walk (known pass.old.seat).own (source_place pool.now.layout (known pass.old.seat) at side) (word_of first) (word_of new) }
+    requires word { word < 4 }
+    requires named { guarding (known pass.old.seat) word ≡ new.number }
+    requires unused { IsUnused word (known pass.old.seat) }
     requires few { length (known pass.old.seat).chains < 4 }
-    requires room { length pass.old.purse.chains.items < vec_capacity pass.old.purse.chains }
     ensures same { IsSame pass.old.seat pass.new.seat }
-    ensures made { DetachedAt pool.now.layout S.chain at side chain.guard first new result pass.old.seat pass.new.seat }
+    ensures made { DetachedAt pool.now.layout S.chain at side word (word_of first) (word_of new) result pass.old.seat pass.new.seat }
     ensures walk { pass.new.walk ≡ pass.old.walk }
-    ensures purse { MayTake (result ≡ first) chain pass.old.purse pass.new.purse }
+    ensures purse { MayTake (result ≡ word_of first) (record { first = first.number; guard = word; frontier = new.number }) pass.old.purse pass.new.purse }
 {
     let place = locate(pool, pass, at, side);
-    let about = About {
-        word: chain.guard,
-        ..NOTHING
-    };
-    let found = exchange_word::<S, Brand>(pool, &mut pass.seat, place, first, new, about);
-    if found == first {
-        pass.purse.chains.push(chain).unwrap();
+    let expected = first.word();
+    let about = About { word, ..NOTHING };
+    let found = exchange_word::<S, Brand>(pool, &mut pass.seat, place, expected, new.word(), about);
+    if found == expected {
+        let (first, frontier) = (first.number(), new.number());
+        let guard = word;
+        pass.purse.take_in_hand(InHand {
+            first,
+            guard,
+            frontier,
+        });
     }
     found
 }
@@ -80,11 +89,9 @@ pub fn invalidate<S: Shape>(
     set_bits::<S, Brand>(pool, &mut pass.seat, place, INVALID, about)
 }
 
-/// Puts a number of the oldest chain behind the retired ones, once its links have INVALID. It makes no step, and takes
-/// no memory. A pool has at most 262,144 records.
+/// Puts a number of the oldest chain behind the retired ones. It makes no step, and takes no memory.
 pub fn set_aside<S: Shape>(pass: &mut Pass<S>, number: u32)
     requires room { length pass.old.purse.retired.items < vec_capacity pass.old.purse.retired }
-    requires few { pass.old.purse.spent < 262144 }
     ensures seat { pass.new.seat ≡ pass.old.seat }
     ensures walk { pass.new.walk ≡ pass.old.walk }
     ensures purse { SetAside number pass.old.purse pass.new.purse }

@@ -32,7 +32,7 @@ pub struct Pass<S: Shape> {
     pub walk: [u32; 5],
     /// Its lists, and its frontier words.
     pub purse: Purse,
-    ghost keeping: { Keeping S.SENTINELS seat number share walk purse },
+    ghost keeping: { Keeping S.SENTINELS S.SIDES seat number share walk purse },
 }
 
 impl<S: Shape> Pass<S> {
@@ -54,7 +54,7 @@ impl<S: Shape> Pass<S> {
     pub fn retired(&self) -> &[u32]
         ensures { result.now ≡ (known self.now.seat).retired }
     {
-        &self.purse.retired[..self.purse.retired.len() - self.purse.spent as usize]
+        &self.purse.retired[..self.purse.retired.len() - self.purse.spent]
     }
 
     /// How many chains it has in hand.

@@ -1,10 +1,15 @@
 //! What a pass has beside its seat and its walk words.
 
-/// A chain that the pass detached: its first record, and the frontier word that guards it.
+ghost use Rattle.std.specs.Prelude.{◌<◌, length, vec_capacity};
+ghost use Rattle.pp_base.specs.Chains.{TookInHand};
+
+/// A chain that the pass detached: its first record, the frontier word that guards it, and the record that it leads to,
+/// or 0.
 #[derive(Clone, Copy, Debug, PartialEq, Eq)]
 pub struct InHand {
     pub first: u32,
     pub guard: u8,
+    pub frontier: u32,
 }
 
 /// The lists of a pass.
@@ -14,7 +19,7 @@ pub struct Purse {
     /// The retired records, and behind them those of the oldest chain in hand whose links have INVALID already.
     pub retired: Vec<u32>,
     /// How many of these are not retired yet.
-    pub spent: u32,
+    pub spent: usize,
     /// The chains in hand, the oldest first.
     pub chains: Vec<InHand>,
     /// The number in each frontier word.
@@ -23,4 +28,14 @@ pub struct Purse {
     pub taken: u32,
     /// Whether a call of a map is going on.
     pub going: bool,
+}
+
+impl Purse {
+    /// One more chain is in hand, the newest. There is room for it.
+    pub(crate) fn take_in_hand(&mut self, chain: InHand)
+        requires { length self.old.chains.items < vec_capacity self.old.chains }
+        ensures { TookInHand chain self.old self.new }
+    {
+        self.chains.push(chain).unwrap();
+    }
 }

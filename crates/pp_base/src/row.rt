@@ -6,8 +6,8 @@ ghost use Rattle.pp_link.specs.Links.{word_of};
 ghost use Rattle.pp_link.specs.Places.{field_number};
 ghost use Rattle.pp_base.specs.Row.{row_head, row_link, row_field, has_flag, IsRow, row_chain, MayCut};
 ghost use Rattle.pp_base.specs.Row.{row_pairs, row_alive, row_count, RowTells, RowTellsPass};
-ghost use Rattle.pp_base.specs.RowLaws.{row_sided, row_heads_open, row_links_open, row_freezes, row_opened, row_alike};
-ghost use Rattle.pp_base.specs.RowLaws.{row_clears, row_invalidates, row_detaches, row_detached, row_gathers};
+ghost use Rattle.pp_base.specs.RowLaws.{row_sided, row_fits, row_heads_open, row_links_open, row_freezes, row_opened, row_alike};
+ghost use Rattle.pp_base.specs.RowLaws.{row_clears, row_invalidates, row_chained, row_detaches, row_detached, row_gathers};
 
 use pp_link::{Field, Layout, Link};
 use pp_model::Pair;
@@ -49,9 +49,9 @@ impl Shape for RowShape {
 
     ghost forget = { λ i own. own };
 
-    ghost chain = { λ q guard first new. row_chain q guard first new };
+    ghost chain = { λ walk own guard first new. row_chain guard };
 
-    ghost may_detach = { λ z q place guard first new. MayCut z q place guard first new };
+    ghost may_detach = { λ z walk own place first new. MayCut z walk place first new };
 
     ghost pairs = { row_pairs };
 
@@ -83,6 +83,8 @@ impl Shape for RowShape {
 
     ghost sided = { row_sided };
 
+    ghost fits = { row_fits };
+
     ghost heads_open = { row_heads_open };
 
     ghost links_open = { row_links_open };
@@ -96,6 +98,8 @@ impl Shape for RowShape {
     ghost clears = { row_clears };
 
     ghost invalidates = { row_invalidates };
+
+    ghost chained = { row_chained };
 
     ghost detaches = { row_detaches };
 

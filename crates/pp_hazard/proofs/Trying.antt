@@ -21,8 +21,10 @@ use Rattle.pp_base.specs.declared.source.Place.{Place}
 use Rattle.pp_base.specs.declared.source.Place.TheVariants.{Head, Walk}
 use Rattle.pp_base.specs.Passes.{IsPassOf}
 use Rattle.pp_base.specs.Sources.{side_number, source_place, IsReadable, learning_at}
-use Rattle.pp_hazard.specs.Protection.{loads, announces, confirms, clears, SameRecord, SameBut}
-use Rattle.pp_hazard.specs.Protection.{MadeOne, Protects, FindsNil, FindsInvalid, FindsOther}
+use Rattle.pp_base.specs.Named.{loads, announces, confirms, clears, MadeOne}
+use Rattle.pp_base.proofs.Named.{plain_one}
+use Rattle.pp_hazard.specs.Protection.{SameRecord, SameBut}
+use Rattle.pp_hazard.specs.Protection.{Protects, FindsNil, FindsInvalid, FindsOther}
 
 same_record : (s : WalkSlot) → SameRecord s s
 same_record s = record { named = refl; held = refl; key = refl; value = refl }
@@ -145,7 +147,7 @@ module _ {E A W : Type 0} (sides : ℕ) (z : Sizes) (frozen : ℕ → Bool) (for
     loaded_known = quiet_known _ _ _ _ (learnt first) v v1 loaded.made
 
     loaded_one : MadeOne (loads link_place first) v v1
-    loaded_one = record { known = learnt first; number = (more first).number; owned = (more first).owned; made = loaded.made }
+    loaded_one = plain_one (loads link_place first) (learnt first) v v1 (more first).number (more first).owned loaded.made
 
     pub finds_nil : invalid_bit first ≡ 0 → target first ≡ 0 → FindsNil z frozen forget at side i v v1 first
     finds_nil valid nil = record { valid = valid; nil = nil; steps = (v1, (loaded_one, refl)); known = loaded_known }
@@ -174,7 +176,7 @@ module _ {E A W : Type 0} (sides : ℕ) (z : Sizes) (frozen : ℕ → Bool) (for
       announced_one : MadeOne (announces word_place (target first)) v1 v2
       announced_one = subst (λ (p : ℕ). MadeOne (announces p (target first)) v1 v2)
           (ap (λ (q : PassState W). walk_place z q.number i) loaded_known ∙ ap (λ (n : ℕ). walk_place z n i) (more first).number)
-          (record { known = with_walk i (naming (target first)) v1.known; number = refl; owned = refl; made = announced })
+          (plain_one (announces (walk_place z v1.known.number i) (target first)) (with_walk i (naming (target first)) v1.known) v1 v2 refl refl announced)
 
       place_is : source_place z v2.known at side ≡ link_place
       place_is = ap (λ (q : PassState W). source_place z q at side) named_known
@@ -200,7 +202,7 @@ module _ {E A W : Type 0} (sides : ℕ) (z : Sizes) (frozen : ℕ → Bool) (for
                   (
                     subst (λ (n : ℕ). MadeOne (confirms link_place n) v2 v3) e
                         (subst (λ (p : ℕ). MadeOne (confirms p second) v2 v3) place_is
-                        (record { known = with_walk i w v2.known; number = refl; owned = refl; made = held.1.1 })),
+                        (plain_one (confirms (source_place z v2.known at side) second) (with_walk i w v2.known) v2 v3 refl refl held.1.1)),
                     refl,
                   ),
                 ),
@@ -233,14 +235,14 @@ module _ {E A W : Type 0} (sides : ℕ) (z : Sizes) (frozen : ℕ → Bool) (for
                       v3,
                       (
                         subst (λ (p : ℕ). MadeOne (confirms p second) v2 v3) place_is
-                            (record { known = v2.known; number = refl; owned = refl; made = confirmed.other ne }),
+                            (plain_one (confirms (source_place z v2.known at side) second) v2.known v2 v3 refl refl (confirmed.other ne)),
                         (
                           v4,
                           (
                             subst (λ (p : ℕ). MadeOne (clears p) v3 v4)
                                 (ap (λ (q : PassState W). walk_place z q.number i) same
                                 ∙ ap (λ (n : ℕ). walk_place z n i) (more first).number)
-                                (record { known = clearing forget i v3.known; number = refl; owned = refl; made = cleared }),
+                                (plain_one (clears (walk_place z v3.known.number i)) (clearing forget i v3.known) v3 v4 refl refl cleared),
                             refl,
                           ),
                         ),

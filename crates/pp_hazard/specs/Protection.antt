@@ -1,42 +1,19 @@
 -- What a try to protect a record makes of the view of its pass.
-use Rattle.std.specs.Prelude.{◌≡◌, ◌≢◌, ◌⊎◌, ℕ, ◌<◌, Bool, true, false, List, [], ◌∷◌}
+use Rattle.std.specs.Prelude.{◌≡◌, ◌≢◌, ◌⊎◌, ℕ, ◌<◌, Bool, true, false, [], ◌∷◌}
 use Rattle.pp_link.specs.declared.layout.Sizes.{Sizes}
 use Rattle.pp_link.specs.Links.{word_of, target, invalid_bit}
 use Rattle.pp_link.specs.Places.{IsNumber, walk_place}
-use Rattle.pp_model.specs.declared.steps.Step.{Step}
-use Rattle.pp_rule.specs.Orders.{load_step, announce_step, confirm_step, clear_step}
 use Rattle.pp_rule.specs.declared.views.WalkSlot.{WalkSlot}
 use Rattle.pp_rule.specs.declared.views.PassState.{PassState}
 use Rattle.pp_rule.specs.declared.views.SeatView.{SeatView}
 use Rattle.pp_rule.specs.Views.{slot}
-use Rattle.pp_rule.specs.Steps.{MadeQuietStep, with_walk, clearing, holding}
+use Rattle.pp_rule.specs.Steps.{with_walk, clearing, holding}
 use Rattle.pp_base.specs.declared.source.Side.{Side}
 use Rattle.pp_base.specs.declared.source.Place.{Place}
+use Rattle.pp_base.specs.Named.{loads, announces, confirms, clears, Made}
 use Rattle.pp_base.specs.Sources.{source_place, learning_at}
 use Rattle.pp_hazard.specs.declared.protection.Protect.{Protect}
 use Rattle.pp_hazard.specs.declared.protection.Protect.TheVariants.{Confirmed, Nil, Moved, Invalid}
-
--- a step by its kind, the place of its word, and the word that it found or stored
-pub record NamedStep : Type 0 where
-  pub kind : ℕ
-  pub place : ℕ
-  pub word : ℕ
-
--- how a step of the order is named
-abbrev pub name_of : Step → NamedStep
-name_of s = record { kind = s.kind; place = s.place; word = s.word }
-
-abbrev pub loads : ℕ → ℕ → NamedStep
-loads place word = record { kind = load_step; place = place; word = word }
-
-abbrev pub announces : ℕ → ℕ → NamedStep
-announces place number = record { kind = announce_step; place = place; word = number }
-
-abbrev pub confirms : ℕ → ℕ → NamedStep
-confirms place word = record { kind = confirm_step; place = place; word = word }
-
-abbrev pub clears : ℕ → NamedStep
-clears place = record { kind = clear_step; place = place; word = 0 }
 
 -- nothing is held in the walk word, and it is 0
 pub record IsClear (s : WalkSlot) : Type 0 where
@@ -59,19 +36,6 @@ module _ {W : Type 0} where
     pub retired_are : q'.retired ≡ q.retired
     pub chains : q'.chains ≡ q.chains
     pub scan : q'.scan ≡ q.scan
-
-module _ {E A W : Type 0} where
-  -- the pass made this step, at which no change took effect and no call was placed
-  pub record MadeOne (step : NamedStep) (before after : SeatView E A W) : Type 0 where
-    pub known : PassState W
-    pub number : known.number ≡ before.known.number
-    pub owned : known.owned ≡ before.known.owned
-    pub made : MadeQuietStep step.kind step.place step.word step.word known before after
-
-  -- the pass made these steps, one after another, and no others
-  abbrev pub Made : List NamedStep → SeatView E A W → SeatView E A W → Type 0
-  Made [] before after = after ≡ before
-  Made (step ∷ steps) before after = (next : SeatView E A W) × (MadeOne step before next × Made steps next after)
 
 module _ {E A W : Type 0} (z : Sizes) (frozen : ℕ → Bool) (forget : ℕ → W → W) (at : Place) (side : Side) (i : ℕ)
     (before after : SeatView E A W) where

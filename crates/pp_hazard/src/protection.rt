@@ -7,8 +7,8 @@ ghost use Rattle.pp_base.specs.Sources.{IsReadable};
 ghost use Rattle.pp_base.specs.Made.{ClearedWord};
 ghost use Rattle.pp_hazard.specs.Protection.{IsClear, SameBut, Answered, HasAfter};
 
-use crate::reading::unpacked;
 use pp_base::hazards::{announce, confirm, load_link};
+use pp_base::source::unpacked;
 use pp_base::{Pass, Place, Pool, Side};
 use pp_link::Link;
 use pp_rule::Shape;

@@ -1,7 +1,7 @@
 //! The loads of links and of held records.
 
-ghost use Rattle.std.specs.Prelude.{◌≡◌, ◌^◌, ◌<◌, ℕ, true};
-ghost use Rattle.pp_link.specs.Links.{word_of, target, bit, invalid_bit};
+ghost use Rattle.std.specs.Prelude.{◌≡◌, ◌<◌, ℕ, true};
+ghost use Rattle.pp_link.specs.Links.{word_of};
 ghost use Rattle.pp_link.specs.declared.layout.Field.TheVariants.{Key, Value};
 ghost use Rattle.pp_rule.specs.Views.{slot};
 ghost use Rattle.pp_base.specs.Passes.{known, Fits, IsSame};
@@ -9,19 +9,10 @@ ghost use Rattle.pp_base.specs.Sources.{IsReadable};
 ghost use Rattle.pp_base.specs.Made.{ReadHeld, LoadedAt};
 
 use pp_base::hazards::{load_link, read};
+use pp_base::source::unpacked;
 use pp_base::{Pass, Place, Pool, Side};
 use pp_link::{Field, Link};
 use pp_rule::Shape;
-
-/// The link that a word of the table packs.
-pub(crate) fn unpacked(word: u64) -> Link
-    requires { word < 2 ^ 36 }
-    ensures word { word_of result ≡ word }
-    ensures number { result.number ≡ target word }
-    ensures invalid { bit result.invalid ≡ invalid_bit word }
-{
-    Link::of(word).unwrap()
-}
 
 /// Loads a link of a head, or of a record that the pass holds: one step. Where it is a held record's and frozen, the
 /// pass has learnt it.

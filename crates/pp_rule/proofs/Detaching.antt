@@ -20,7 +20,7 @@ use Rattle.pp_rule.specs.States.{RecordState, attached, in_hand, retired, owned,
 use Rattle.pp_rule.specs.States.{IsSmall, Stays, Leads, Leaves, Held, SameTarget}
 use Rattle.pp_rule.specs.Rule.{guard_of, Numbers, PrivateWords, Hazards, Links, Shelves, Chains, Scans, Base}
 use Rattle.pp_rule.specs.Ties.{Holds}
-use Rattle.pp_rule.specs.Steps.{entry, IsAlone, detaching, IsSource}
+use Rattle.pp_rule.specs.Steps.{entry, IsAlone, detaching, IsSource, IsUnused}
 use Rattle.pp_rule.specs.Looks.{SameOwn}
 use Rattle.pp_rule.specs.Detach.{Detaches, Detached, Exchanged}
 use Rattle.pp_rule.specs.Laws.{KeptAlike, MayDetach, KeptDetached}
@@ -389,14 +389,15 @@ module _ {E A W : Type 0} (sides : ℕ) (opens : Sizes → List ℕ) (addition :
   stores_none false = refl
 
   -- A chain may be detached by an exchange at a source, where the shape says so.
-  pub detaches_chain : KeptAlike sides addition → (chain : PassState W → ℕ → ℕ → ℕ → Chain)
-      → (may_detach : Sizes → PassState W → ℕ → ℕ → ℕ → ℕ → Type 0) → MayDetach sides addition chain may_detach
+  pub detaches_chain : KeptAlike sides addition → (chain : List WalkSlot → W → ℕ → ℕ → ℕ → Chain)
+      → (may_detach : Sizes → List WalkSlot → W → ℕ → ℕ → ℕ → Type 0) → MayDetach sides addition chain may_detach
       → KeptDetached sides addition chain may_detach → (z : Sizes) (slots id place guard first new : ℕ) (me : Me Unit (SeatView E A W))
-      → IsAlone me → IsSource sides z me.0.known place → may_detach z me.0.known place guard first new
+      → IsAlone me → IsSource sides z me.0.known place → may_detach z me.0.known.walk me.0.known.own place first new
+      → guard < 4 → guarding me.0.known guard ≡ target new → IsUnused guard me.0.known
       → Allows (Holds sides opens addition z) slots id me place (λ n. either (eqb n first) new n)
-      (λ n m'. (m'.1 ≡ []) × Exchanged (chain me.0.known guard first new) first new n place me.0 m'.0)
-  detaches_chain alike chain may_detach shows kept z slots id place guard first new me lone source may = let q : PassState W = me.0.known in
-      let c : Chain = chain q guard first new in
+      (λ n m'. (m'.1 ≡ []) × Exchanged (chain me.0.known.walk me.0.known.own guard first new) first new n place me.0 m'.0)
+  detaches_chain alike chain may_detach shows kept z slots id place guard first new me lone source may four names unused = let q : PassState W = me.0.known in
+      let c : Chain = chain q.walk q.own guard first new in
       let then : ℕ → Me Unit (SeatView E A W) → Type 0 = λ n m'. (m'.1 ≡ []) × Exchanged c first new n place me.0 m'.0 in
       allows_by sides opens addition z slots id place (λ n. cond (eqb n first) detach_step missed_step) me
       (λ n. either (eqb n first) new n) (λ n. n)
@@ -408,7 +409,7 @@ module _ {E A W : Type 0} (sides : ℕ) (opens : Sizes → List ℕ) (addition :
       (λ e. subst (λ (hit : Bool). Plays sides opens addition (cond hit detach_step missed_step) place n (either hit new n) z words g me.0
       (then n))
       (sym (eq-eqb n first e))
-      (let d : Detaches sides z words g q c place (target new) new = shows z words g q place guard first new b add pass is may e in
+      (let d : Detaches sides z words g q c place (target new) new = shows z words g q place guard first new b add pass is may four names unused e in
       let q' : PassState W = detaching c q in
       let status : ℕ → RecordState = detached_status sides z words g q c place (target new) new b pass is d in
       let s : LoggedStep E A = entry detach_step place n new [] [] g.order q' in

@@ -348,6 +348,10 @@ module _ {E A W : Type 0} (sides : ℕ) (opens : Sizes → List ℕ) (addition :
             made = made;
             small = subst (λ (x : ℕ). IsSmall (get_or words x 0)) (sym at_place)
                 (link_small sides z words g q k n side c b pass is at member below);
+            leads = λ l i number_is side_is. let link = b.chains.links q.number c l pass (chain_in sides z words g q k n side c b pass is at
+                member below) i in
+                ap target (ap (λ (x : ℕ). get_or words x 0) (at_place ∙ (ap (λ (m : ℕ). cell_place z m (2 + side)) (sym number_is)
+                ∙ ap (λ (t : ℕ). cell_place z l.number (2 + t)) (sym side_is)))) ∙ link.2.target_is;
           },
         );
       })

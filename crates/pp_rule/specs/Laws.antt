@@ -5,10 +5,12 @@ use Rattle.pp_link.specs.Links.{target}
 use Rattle.pp_link.specs.Places.{IsWithin}
 use Rattle.pp_model.specs.declared.Pair.{Pair}
 use Rattle.pp_rule.specs.Orders.{log_of, placed_by}
-use Rattle.pp_rule.specs.Views.{Chain, PassState}
+use Rattle.pp_rule.specs.Views.{WalkSlot, Chain, PassState, guarding}
 use Rattle.pp_rule.specs.States.{PoolState, IsFrozen}
 use Rattle.pp_rule.specs.Rule.{Base}
 use Rattle.pp_rule.specs.Looks.{LooksSame, Cleared, Invalidates}
+use Rattle.pp_rule.specs.Steps.{IsUnused}
+use Rattle.pp_rule.specs.Paths.{IsChainTo}
 use Rattle.pp_rule.specs.Detach.{Detaches, Detached}
 use Rattle.pp_rule.specs.Opening.{opening_words, OpensInto, IsOpening}
 use Rattle.pp_rule.specs.Closing.{Gathers}
@@ -16,6 +18,13 @@ use Rattle.pp_rule.specs.Closing.{Gathers}
 -- a frozen word has FLAG or TAG
 abbrev pub Freezes : (ℕ → Bool) → Type 0
 Freezes frozen = (w : ℕ) → frozen w ≡ true → IsFrozen w
+
+-- Where a chain may be detached, it stands in the order in which its links lead, from the record that the old word leads to up to
+-- the one that the new word leads to.
+abbrev pub Chained : {W : Type 0} → ℕ → (List WalkSlot → W → ℕ → ℕ → ℕ → Chain) → (Sizes → List WalkSlot → W → ℕ → ℕ → ℕ → Type 0)
+    → Type 0
+Chained {W} sides chain may_detach = (z : Sizes) (walk : List WalkSlot) (own : W) (place guard first new : ℕ)
+    → may_detach z walk own place first new → IsChainTo sides guard (target first) (target new) (chain walk own guard first new)
 
 -- the heads and the sentinels' links lead to nil or to sentinels
 abbrev pub HeadsOpen : ℕ → (ℕ → ℕ) → Type 0
@@ -47,20 +56,23 @@ module _ {E A W : Type 0} (sides : ℕ) (addition : Sizes → List ℕ → PoolS
   KeptInvalid = (z : Sizes) (words words' : List ℕ) (g g' : PoolState E A W) (n side : ℕ) → Base sides z words g → Base sides z words' g'
       → side < sides → Invalidates z words words' g g' n side → addition z words g → addition z words' g'
 
-  module _ (chain : PassState W → ℕ → ℕ → ℕ → Chain) (may_detach : Sizes → PassState W → ℕ → ℕ → ℕ → ℕ → Type 0) where
-    -- where the word is still the one that is expected, the chain may be detached
+  module _ (chain : List WalkSlot → W → ℕ → ℕ → ℕ → Chain) (may_detach : Sizes → List WalkSlot → W → ℕ → ℕ → ℕ → Type 0) where
+    -- Where the word is still the one that is expected, the chain may be detached under a frontier word that guards no chain and
+    -- names the record that the new word leads to.
     abbrev pub MayDetach : Type 0
     MayDetach = (z : Sizes) (words : List ℕ) (g : PoolState E A W) (q : PassState W) (place guard first new : ℕ) → Base sides z words g
-        → addition z words g → q.number < z.passes → g.of q.number ≡ q → may_detach z q place guard first new
-        → slice_index words place ≡ first → Detaches sides z words g q (chain q guard first new) place (target new) new
+        → addition z words g → q.number < z.passes → g.of q.number ≡ q → may_detach z q.walk q.own place first new
+        → guard < 4 → guarding q guard ≡ target new → IsUnused guard q
+        → slice_index words place ≡ first → Detaches sides z words g q (chain q.walk q.own guard first new) place (target new) new
 
     -- and that keeps the addition
     abbrev pub KeptDetached : Type 0
     KeptDetached = (z : Sizes) (words : List ℕ) (g g' : PoolState E A W) (q : PassState W) (place guard first new : ℕ)
         → Base sides z words g
-        → Base sides z (slice_set words place new) g' → q.number < z.passes → g.of q.number ≡ q → may_detach z q place guard first new
-        → slice_index words place ≡ first → Detaches sides z words g q (chain q guard first new) place (target new) new
-        → Detached z g g' q (chain q guard first new) → addition z words g → addition z (slice_set words place new) g'
+        → Base sides z (slice_set words place new) g' → q.number < z.passes → g.of q.number ≡ q
+        → may_detach z q.walk q.own place first new
+        → slice_index words place ≡ first → Detaches sides z words g q (chain q.walk q.own guard first new) place (target new) new
+        → Detached z g g' q (chain q.walk q.own guard first new) → addition z words g → addition z (slice_set words place new) g'
 
   -- What a closed pool tells: its live numbers, its contents, and the placed calls of each pass.
   abbrev pub Closes : (Sizes → List ℕ → List ℕ) → (ℕ → ℕ) → (Sizes → List ℕ → List Pair) → (Sizes → List E → List Pair → Type 0)

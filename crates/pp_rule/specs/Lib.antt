@@ -6,6 +6,7 @@ pub mod Rule
 pub mod Ties
 pub mod Steps
 pub mod Looks
+pub mod Paths
 pub mod Detach
 pub mod Opening
 pub mod Closing

@@ -7,7 +7,7 @@ use Rattle.pp_link.specs.Places.{IsNumber, head_place, cell_place}
 use Rattle.atomic_table.specs.Table.{Me}
 use Rattle.pp_rule.specs.Lists.{IsIn, BeginsWith, without, without_all, first_of, rest_of, longer}
 use Rattle.pp_rule.specs.Orders.{LoggedStep, log_of, made_by, load_step, confirm_step, read_step, invalidate_step, scan_walk_step}
-use Rattle.pp_rule.specs.Views.{WalkSlot, naming, Chain, PrivateRecord, PassState, SeatView, JoinedOrder, all_of, slot}
+use Rattle.pp_rule.specs.Views.{WalkSlot, naming, Chain, ChainLink, PrivateRecord, PassState, SeatView, JoinedOrder, all_of, slot}
 
 module _ {E A W : Type 0} where
   -- the entry of a step in the order, after the steps so far
@@ -185,6 +185,7 @@ module _ {E A W : Type 0} where
   pub record Invalidated (k : ℕ) (c : Chain) (n side found place : ℕ) (before after : SeatView E A W) : Type 0 where
     pub made : MadeQuietStep invalidate_step place found (bit_or found 4) (with_chain k (invalidated n side c) before.known) before after
     pub small : found < 68719476736
+    pub leads : (l : ChainLink) → IsIn l c.links → l.number ≡ n → l.side ≡ side → target found ≡ target l.word
 
   -- A load of the last walk word of a reclaim pass, which named n. The freed records are those that are left, in the order of
   -- the retired list, with the words that stand in them.

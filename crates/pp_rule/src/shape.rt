@@ -6,14 +6,14 @@ ghost use Rattle.pp_link.specs.Links.{word_of, target};
 ghost use Rattle.pp_link.specs.Places.{IsWithin, field_number};
 ghost use Rattle.pp_model.specs.declared.Pair.{Pair};
 ghost use Rattle.pp_rule.specs.Orders.{log_of, placed_by};
-ghost use Rattle.pp_rule.specs.Views.{Chain, PassState};
+ghost use Rattle.pp_rule.specs.Views.{WalkSlot, Chain};
 ghost use Rattle.pp_rule.specs.States.{PoolState};
 ghost use Rattle.pp_rule.specs.Rule.{Base};
 ghost use Rattle.pp_rule.specs.Ties.{Holds};
 ghost use Rattle.pp_rule.specs.Opening.{opening_words, first_view};
-ghost use Rattle.pp_rule.specs.Laws.{Freezes, HeadsOpen, LinksOpen, MetAtOpening, KeptAlike, KeptCleared, KeptInvalid, MayDetach, KeptDetached, Closes};
+ghost use Rattle.pp_rule.specs.Laws.{Freezes, HeadsOpen, LinksOpen, MetAtOpening, KeptAlike, KeptCleared, KeptInvalid, Chained, MayDetach, KeptDetached, Closes};
 
-use crate::views::{Chain, PassState, SeatView};
+use crate::views::{Chain, SeatView, WalkSlot};
 use atomic_table::TableRule;
 use pp_link::{Field, Layout, Link, Sizes};
 use pp_model::Pair;
@@ -64,11 +64,12 @@ pub trait Shape {
     // the shape's part of a pass that cleared a walk word
     ghost forget: { ℕ → Self.Own → Self.Own };
 
-    // the chain that an exchange of one word for another may detach under a frontier word, as far as the pass has learnt
-    ghost chain: { PassState Self.Own → ℕ → ℕ → ℕ → Chain };
+    // the chain that an exchange of one word for another detaches under a frontier word, as a pass knows it by its walk words
+    // and its part of the shape
+    ghost chain: { List WalkSlot → Self.Own → ℕ → ℕ → ℕ → Chain };
 
-    // what a pass has to know for that exchange of the word at a place
-    ghost may_detach: { Sizes → PassState Self.Own → ℕ → ℕ → ℕ → ℕ → Type 0 };
+    // what a pass has to know by them for that exchange of the word at a place
+    ghost may_detach: { Sizes → List WalkSlot → Self.Own → ℕ → ℕ → ℕ → Type 0 };
 
     // the contents of closed words, and their live numbers
     ghost pairs: { Sizes → List ℕ → List Pair };
@@ -105,6 +106,9 @@ pub trait Shape {
     // A structure has one link or two.
     ghost sided: { (1 ≤ SIDES) × (SIDES ≤ 2) };
 
+    // The smallest pool has room for the sentinels.
+    ghost fits: { SENTINELS ≤ 8 };
+
     ghost heads_open: { HeadsOpen SENTINELS first_head };
 
     ghost links_open: { LinksOpen SIDES SENTINELS first_field };
@@ -118,6 +122,8 @@ pub trait Shape {
     ghost clears: { KeptCleared SIDES addition forget };
 
     ghost invalidates: { KeptInvalid SIDES addition };
+
+    ghost chained: { Chained SIDES chain may_detach };
 
     ghost detaches: { MayDetach SIDES addition chain may_detach };
 

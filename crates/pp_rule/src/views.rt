@@ -35,6 +35,8 @@ pub struct Chain {
     pub records: LinkedList<u64>,
     /// The frontier word that guards it.
     pub guard: u64,
+    /// The record that it leads to, or 0.
+    pub frontier: u64,
     /// Its links as they were.
     pub links: LinkedList<ChainLink>,
     /// The links that have no INVALID yet, as far as is known: each a record and a side.

@@ -5,6 +5,6 @@ use Rattle.pp_base.proofs.chains.detach.Given as goal
 
 abbrev pub ghosts-exchange_word : goal.ghosts-exchange_word
 ghosts-exchange_word g a = record {
-  then = λ m n m'. ((m'.1 ≡ []) × Exchanged (g.S.Shape.chain m.0.known a._about.word a.first a.new) a.first a.new n a.place m.0 m'.0)
+  then = λ m n m'. ((m'.1 ≡ []) × Exchanged (g.S.Shape.chain m.0.known.walk m.0.known.own a._about.word a.first a.new) a.first a.new n a.place m.0 m'.0)
       × IsPassOf a.pool.now.layout m'.0.known;
 }

@@ -42,7 +42,7 @@ pub invariant_of-pass : goal.invariant_of-pass
 invariant_of-pass g c = let pass = c.args.pass.now in let same : c.index.result.now.guard ≡ (chain_at (known pass.seat) 0).guard =
     oldest_guard (known pass.seat).chains pass.purse.chains.items c.index.result.now pass.keeping.chains c.requires.some c.index.ensures in
     let t = c.store_word.ensures.told in let seat = c.store_word.new.seat in record {
-      keeping = keeping_retired g.S.Shape.SENTINELS pass.seat seat _ _ _ _ _ _ pass.keeping (made_alone seat.me t.0.0 t.0.1) t.1
+      keeping = keeping_retired g.S.Shape.SENTINELS g.S.Shape.SIDES pass.seat seat _ _ _ _ _ _ pass.keeping (made_alone seat.me t.0.0 t.0.1) t.1
           c.requires.spent (lets_go pass.purse c.remove.new.self _ _ same c.remove.ensures.items c.remove.ensures.capacity)
           (made_known seat.me t.0.1);
     }

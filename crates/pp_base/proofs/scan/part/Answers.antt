@@ -5,7 +5,7 @@ use Rattle.pp_base.proofs.scan.part.Goals.{then-is_hazard, else-is_hazard}
 use Rattle.pp_base.proofs.scan.part.Goals as goal
 
 pub loop-i-preserved : goal.loop-i-preserved
-loop-i-preserved c = let test = is_named c.args.words.now c.args.last in let n = c.index-number.result.now in
+loop-i-preserved c = let test = is_named c.args.words.now in let n = c.index-number.result.now in
     let xs = c.loop-i.retired.items in let i = c.loop-i.i in let kept = c.loop-i.kept in let before = c.loop-i.invariant in
     let below : c.loop-i.i < length c.loop-i.retired.items = omega (arith, c.loop-i-test.true, c.len-count.ensures, before.count) in
     elim c.if-is_hazard.branch [
@@ -34,9 +34,9 @@ loop-i-preserved c = let test = is_named c.args.words.now c.args.last in let n =
 
 pub returns-clause-retired : goal.returns-clause-retired
 returns-clause-retired c = c.truncate.ensures.items
-    ∙ stays_all (is_named c.args.words.now c.args.last) c.loop-i.retired.items _ c.loop-i.kept c.loop-i.i
+    ∙ stays_all (is_named c.args.words.now) c.loop-i.retired.items _ c.loop-i.kept c.loop-i.i
     (omega (arith, c.loop-i-test.false, c.len-count.ensures, c.loop-i.invariant.count)) c.loop-i.invariant.stays
 
 pub returns-clause-free : goal.returns-clause-free
-returns-clause-free c = freed_all (is_named c.args.words.now c.args.last) c.loop-i.retired.items c.loop-i.free.items _ c.loop-i.i
+returns-clause-free c = freed_all (is_named c.args.words.now) c.loop-i.retired.items c.loop-i.free.items _ c.loop-i.i
     (omega (arith, c.loop-i-test.false, c.len-count.ensures, c.loop-i.invariant.count)) c.loop-i.invariant.freed

@@ -6,10 +6,10 @@ use Rattle.pp_base.proofs.scan.part.Given as goal
 -- what was looked at is parted, and what is behind it stands as it was
 abbrev pub invariant-loop-i : goal.invariant-loop-i
 invariant-loop-i l = record {
-  stays : take l.kept l.retired.items ++ chosen (is_named l.words l.last) (drop l.i l.retired.items)
-      ≡ chosen (is_named l.words l.last) l.fn.retired.items;
-  freed : l.free.items ++ rejected (is_named l.words l.last) (drop l.i l.retired.items)
-      ≡ l.fn.free.items ++ rejected (is_named l.words l.last) l.fn.retired.items;
+  stays : take l.kept l.retired.items ++ chosen (is_named l.words) (drop l.i l.retired.items)
+      ≡ chosen (is_named l.words) l.fn.retired.items;
+  freed : l.free.items ++ rejected (is_named l.words) (drop l.i l.retired.items)
+      ≡ l.fn.free.items ++ rejected (is_named l.words) l.fn.retired.items;
   count : length l.retired.items ≡ length l.fn.retired.items;
   behind : l.kept ≤ l.i;
   room : length l.free.items + length l.retired.items ≤ vec_capacity l.free + l.i;

@@ -13,7 +13,7 @@ load_word-requires-clause-allows g c = let S = g.S.Shape in let pass = c.args.pa
 
 pub invariant_of-pass : goal.invariant_of-pass
 invariant_of-pass g c = let pass = c.args.pass.now in let t = c.load_word.ensures.told in let seat = c.load_word.new.seat in record {
-  keeping = keeping_scanned g.S.Shape.SENTINELS pass.seat seat _ _ _ _ _ c.load_word.result pass.keeping
+  keeping = keeping_scanned g.S.Shape.SENTINELS g.S.Shape.SIDES pass.seat seat _ _ _ _ _ c.load_word.result pass.keeping
       (made_alone seat.me t.0.0 t.0.1) t.1 (made_known seat.me t.0.1);
 }
 
