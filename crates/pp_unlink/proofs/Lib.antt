@@ -1,0 +1,5 @@
+pub mod Ordered
+pub mod Looking
+pub mod Settling
+pub mod Exchanging
+pub mod Pigeons

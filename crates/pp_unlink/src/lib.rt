@@ -1,0 +1,8 @@
+//! Taking chains of records out of a structure, and retiring them once no link leads through them any more.
+#![tactic(auto)]
+
+pub mod invalidating;
+pub mod unlinking;
+
+pub use invalidating::{flush, invalidate};
+pub use unlinking::{Unlink, try_unlink};
