@@ -1,0 +1,6 @@
+pub mod Reading
+pub mod Owned
+pub mod Staying
+pub mod Sweeping
+pub mod Resting
+pub mod Flushing

@@ -1,0 +1,7 @@
+//! Reclaiming: a pass reads all hazard words, and what none of them names is free with it.
+#![tactic(auto)]
+
+pub mod reclaiming;
+pub mod scanning;
+
+pub use reclaiming::reclaim;
