@@ -348,7 +348,8 @@ module _ {E A W : Type 0} where
   -- One more chain is in hand.
   pub keeping_taken : (sentinels sides : ℕ) (s s' : Seat Unit (SeatView E A W)) (z : Sizes) (number share : ℕ) (walk : List ℕ) (p p' : Purse)
       (c : Chain) (h : InHand)
-      → Keeping sentinels sides s number share walk p → IsAlone s'.me → IsPassOf z (known s') → in_hand_of c ≡ h → IsChained sides (first_of 0 c.records) c → length (known s).chains < 4
+      → Keeping sentinels sides s number share walk p → IsAlone s'.me → IsPassOf z (known s') → in_hand_of c ≡ h
+      → IsChained sides (first_of 0 c.records) c → length (known s).chains < 4
       → TookInHand h p p' → known s' ≡ detaching c (known s) → Keeping sentinels sides s' number share walk p'
   keeping_taken sentinels sides s s' z number share walk p p' c h k lone pass kept chained few took is =
       keeping_listed sentinels sides s s' z number share walk p p' k lone pass
@@ -376,7 +377,8 @@ module _ {E A W : Type 0} where
   -- It is where the link was as it is expected.
   pub keeping_exchanged : (sentinels sides : ℕ) (s s' : Seat Unit (SeatView E A W)) (z : Sizes) (number share : ℕ) (walk : List ℕ) (p p' : Purse)
       (c : Chain) (h : InHand) (first new n place : ℕ)
-      → Keeping sentinels sides s number share walk p → s'.me.1 ≡ [] → IsPassOf z (known s') → in_hand_of c ≡ h → IsChained sides (first_of 0 c.records) c → length (known s).chains < 4
+      → Keeping sentinels sides s number share walk p → s'.me.1 ≡ [] → IsPassOf z (known s') → in_hand_of c ≡ h
+      → IsChained sides (first_of 0 c.records) c → length (known s).chains < 4
       → MayTake (n ≡ first) h p p' → Exchanged c first new n place s.me.0 s'.me.0 → Keeping sentinels sides s' number share walk p'
   keeping_exchanged sentinels sides s s' z number share walk p p' c h first new n place k none pass kept chained few took x = dite (ℕ_discrete n first)
       (λ e. keeping_taken sentinels sides s s' z number share walk p p' c h k (made_alone s'.me none (x.same e)) pass kept chained few (took.taken e)

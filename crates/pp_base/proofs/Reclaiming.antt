@@ -50,7 +50,8 @@ module _ {E A W : Type 0} where
       (found : ℕ) (freed : List PrivateRecord)
       → Keeping sentinels sides s number share walk p → IsAlone s'.me → IsPassOf z (known s') → known s' ≡ reclaimed found freed (known s)
       → p'.free.items ≡ p.free.items ++ map number_of freed → p'.retired.items ≡ (known s').retired → p'.spent ≡ 0
-      → p'.frontier ≡ p.frontier → p'.chains.items ≡ p.chains.items → p'.taken ≡ p.taken → HasRoom (known s').sizes p' → Keeping sentinels sides s' number share walk p'
+      → p'.frontier ≡ p.frontier → p'.chains.items ≡ p.chains.items → p'.taken ≡ p.taken → HasRoom (known s').sizes p'
+      → Keeping sentinels sides s' number share walk p'
   keeping_reclaimed sentinels sides s s' z number share walk p p' found freed k lone pass is free retired none frontier chains taken room = record {
     lone = lone;
     pass = subst (λ (y : Sizes). IsPassOf y (known s')) (sym pass.sizes) pass;

@@ -76,25 +76,25 @@ pub row_freezes : Freezes has_flag
 row_freezes w flag unfrozen = false≢true (sym (ne_eqb (flag_bit w) 1 (omega arith)) ∙ flag)
 
 -- a link without INVALID is as it was
-exact : (was now : ℕ) → Stays was now → invalid_bit now ≡ 0 → now ≡ was
+pub exact : (was now : ℕ) → Stays was now → invalid_bit now ≡ 0 → now ≡ was
 exact was now stays valid = ⊎_elim (λ (e : now ≡ was). e)
     (λ (more : (invalid_bit was ≡ 0) × (now ≡ was + 4)). let bit = more.0 in let sum = more.1 in absurd (omega arith)) stays
 
-stays_through : (a b c : ℕ) → Stays a b → Stays b c → Stays a c
+pub stays_through : (a b c : ℕ) → Stays a b → Stays b c → Stays a c
 stays_through a b c first second = ⊎_elim
     (λ (e : b ≡ a). subst (λ (k : ℕ). Stays k c) e second)
     (λ (more : (invalid_bit a ≡ 0) × (b ≡ a + 4)). let bit = more.0 in let sum = more.1 in ⊎_elim
     (λ (e : c ≡ b). inr (bit, e ∙ sum))
     (λ (again : (invalid_bit b ≡ 0) × (c ≡ b + 4)). let other = again.0 in absurd (omega arith)) second) first
 
-linked_used : (s : RecordState) → IsLinked s → IsUsed s
+pub linked_used : (s : RecordState) → IsLinked s → IsUsed s
 linked_used attached linked = tt
 linked_used (in_hand p j) linked = tt
 linked_used (retired p) linked = absurd linked
 linked_used (owned p) linked = absurd linked
 linked_used (shelved j) linked = absurd linked
 
-attached_linked : (s : RecordState) → s ≡ attached → IsLinked s
+pub attached_linked : (s : RecordState) → s ≡ attached → IsLinked s
 attached_linked s is = subst IsLinked (sym is) tt
 
 abbrev is_attached : RecordState → Type 0
@@ -104,10 +104,10 @@ is_attached (retired p) = ⊥
 is_attached (owned p) = ⊥
 is_attached (shelved j) = ⊥
 
-not_in_hand : (s : RecordState) (p j : ℕ) → s ≡ in_hand p j → s ≡ attached → ⊥
+pub not_in_hand : (s : RecordState) (p j : ℕ) → s ≡ in_hand p j → s ≡ attached → ⊥
 not_in_hand s p j hand is = subst is_attached (sym is ∙ hand) tt
 
-not_owned : (s : RecordState) (p : ℕ) → s ≡ owned p → s ≡ attached → ⊥
+pub not_owned : (s : RecordState) (p : ℕ) → s ≡ owned p → s ≡ attached → ⊥
 not_owned s p own is = subst is_attached (sym is ∙ own) tt
 
 at_two : (k n : ℕ) → get_elem? (1 ∷ 2 ∷ []) k ≡ some n → suc k ≡ n

@@ -35,7 +35,8 @@ pub fn detach<S: Shape>(
 ) -> u64
     requires fits { Fits pool.now.table.shared.table_id pool.now.layout pass.old.seat }
     requires readable { IsReadable S.SIDES pool.now.layout (known pass.old.seat) at side }
-    requires may { S.may_detach pool.now.layout (known pass.old.seat).walk (known pass.old.seat).own (source_place pool.now.layout (known pass.old.seat) at side) (word_of first) (word_of new) }
+    requires may { S.may_detach pool.now.layout (known pass.old.seat).walk (known pass.old.seat).own
+        (source_place pool.now.layout (known pass.old.seat) at side) (word_of first) (word_of new) }
     requires word { word < 4 }
     requires named { guarding (known pass.old.seat) word ≡ new.number }
     requires unused { IsUnused word (known pass.old.seat) }
@@ -43,7 +44,8 @@ pub fn detach<S: Shape>(
     ensures same { IsSame pass.old.seat pass.new.seat }
     ensures made { DetachedAt pool.now.layout S.chain at side word (word_of first) (word_of new) result pass.old.seat pass.new.seat }
     ensures walk { pass.new.walk ≡ pass.old.walk }
-    ensures purse { MayTake (result ≡ word_of first) (record { first = first.number; guard = word; frontier = new.number }) pass.old.purse pass.new.purse }
+    ensures purse { MayTake (result ≡ word_of first) (record { first = first.number; guard = word; frontier = new.number })
+        pass.old.purse pass.new.purse }
 {
     let place = locate(pool, pass, at, side);
     let expected = first.word();

@@ -1,9 +1,8 @@
 //! A row of three records, of which a pass may detach the first two. No call takes effect in it: it tries the steps
 //! that every pool has.
 
-ghost use Rattle.std.specs.Prelude.{◌≡◌, ◌<◌, ◌≤◌, ◌++◌, [], ◌∷◌, length, vec_capacity};
+ghost use Rattle.std.specs.Prelude.{◌≡◌};
 ghost use Rattle.pp_link.specs.Links.{word_of};
-ghost use Rattle.pp_link.specs.Places.{field_number};
 ghost use Rattle.pp_base.specs.Row.{row_head, row_link, row_field, has_flag, IsRow, row_chain, MayCut};
 ghost use Rattle.pp_base.specs.Row.{row_pairs, row_alive, row_count, RowTells, RowTellsPass};
 ghost use Rattle.pp_base.specs.RowLaws.{row_sided, row_fits, row_heads_open, row_links_open, row_freezes, row_opened, row_alike};
@@ -11,6 +10,7 @@ ghost use Rattle.pp_base.specs.RowLaws.{row_clears, row_invalidates, row_chained
 
 use pp_link::{Field, Layout, Link};
 use pp_model::Pair;
+use pp_model::lists::enter;
 use pp_rule::Shape;
 
 /// The shape of a row of three records: the head 0 leads to the record 1, that to 2 and that to 3, where 1 and 2 are
@@ -117,14 +117,4 @@ fn opening_link(number: u32) -> Link
         2 => Link::pack(3, true, false, false, false),
         _ => Link::pack(0, false, false, false, false),
     }
-}
-
-/// Enters a number where there is room.
-fn enter(numbers: &mut Vec<u32>, number: u32)
-    requires { length numbers.old.items < vec_capacity numbers.old }
-    ensures { numbers.new.items ≡ numbers.old.items ++ number ∷ [] }
-{
-    let entered = numbers.push(number);
-    prove!(entered.is_ok());
-    let _ = entered;
 }

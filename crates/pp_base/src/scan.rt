@@ -9,6 +9,7 @@ ghost use Rattle.pp_base.specs.Scans.{ScannedFrontier, ScannedWalk, ScannedLast,
 
 use crate::pool::{Pass, Pool};
 use crate::steps::{NOTHING, load_word};
+use pp_model::lists::enter;
 use pp_rule::Shape;
 use std::marker::Brand;
 
@@ -64,17 +65,6 @@ pub fn scan_last<S: Shape>(pool: &Pool<S>, pass: &mut Pass<S>, words: &mut [u64]
     sort_with_last(words, found);
     part(&mut pass.purse.retired, &mut pass.purse.free, words);
     found
-}
-
-/// Enters a number where there is room.
-fn enter(numbers: &mut Vec<u32>, number: u32)
-    requires { length numbers.old.items < vec_capacity numbers.old }
-    ensures items { numbers.new.items ≡ numbers.old.items ++ number ∷ [] }
-    ensures room { vec_capacity numbers.old ≤ vec_capacity numbers.new }
-{
-    let entered = numbers.push(number);
-    prove!(entered.is_ok());
-    let _ = entered;
 }
 
 /// Puts the last word in its place behind the others, and sorts them all.

@@ -63,7 +63,8 @@ pub fn load_word<S: Shape, N: StepNote<SeatView<S::Entry, S::Said, S::Own>>>(
 ) -> u64
     requires table { seat.old.table_id ≡ pool.now.table.shared.table_id }
     requires place { place < total pool.now.layout }
-    requires allows { MayStep S.SIDES S.SENTINELS S.first_head S.first_field S.addition pool.now.layout seat.old place (λ n. n) (N.then seat.old.me) }
+    requires allows { MayStep S.SIDES S.SENTINELS S.first_head S.first_field S.addition pool.now.layout seat.old place
+        (λ n. n) (N.then seat.old.me) }
     ensures table { seat.new.table_id ≡ seat.old.table_id }
     ensures told { N.then seat.old.me result seat.new.me }
 {
@@ -80,7 +81,8 @@ pub fn store_word<S: Shape, N: StepNote<SeatView<S::Entry, S::Said, S::Own>>>(
 )
     requires table { seat.old.table_id ≡ pool.now.table.shared.table_id }
     requires place { place < total pool.now.layout }
-    requires allows { MayStep S.SIDES S.SENTINELS S.first_head S.first_field S.addition pool.now.layout seat.old place (λ _. new) (λ _. N.then seat.old.me new) }
+    requires allows { MayStep S.SIDES S.SENTINELS S.first_head S.first_field S.addition pool.now.layout seat.old place
+        (λ _. new) (λ _. N.then seat.old.me new) }
     ensures table { seat.new.table_id ≡ seat.old.table_id }
     ensures told { N.then seat.old.me new seat.new.me }
 {
@@ -100,7 +102,8 @@ pub fn exchange_word<S: Shape, N: StepNote<SeatView<S::Entry, S::Said, S::Own>>>
 ) -> u64
     requires table { seat.old.table_id ≡ pool.now.table.shared.table_id }
     requires place { place < total pool.now.layout }
-    requires allows { MayStep S.SIDES S.SENTINELS S.first_head S.first_field S.addition pool.now.layout seat.old place (λ n. either (n == first) new n) (N.then seat.old.me) }
+    requires allows { MayStep S.SIDES S.SENTINELS S.first_head S.first_field S.addition pool.now.layout seat.old place
+        (λ n. either (n == first) new n) (N.then seat.old.me) }
     ensures table { seat.new.table_id ≡ seat.old.table_id }
     ensures told { N.then seat.old.me result seat.new.me }
 {
@@ -119,7 +122,8 @@ pub fn set_bits<S: Shape, N: StepNote<SeatView<S::Entry, S::Said, S::Own>>>(
 ) -> u64
     requires table { seat.old.table_id ≡ pool.now.table.shared.table_id }
     requires place { place < total pool.now.layout }
-    requires allows { MayStep S.SIDES S.SENTINELS S.first_head S.first_field S.addition pool.now.layout seat.old place (λ n. bit_or n bits) (N.then seat.old.me) }
+    requires allows { MayStep S.SIDES S.SENTINELS S.first_head S.first_field S.addition pool.now.layout seat.old place
+        (λ n. bit_or n bits) (N.then seat.old.me) }
     ensures table { seat.new.table_id ≡ seat.old.table_id }
     ensures told { N.then seat.old.me result seat.new.me }
 {
@@ -138,7 +142,8 @@ pub fn swap_word<S: Shape, N: StepNote<SeatView<S::Entry, S::Said, S::Own>>>(
 ) -> u64
     requires table { seat.old.table_id ≡ pool.now.table.shared.table_id }
     requires place { place < total pool.now.layout }
-    requires allows { MayStep S.SIDES S.SENTINELS S.first_head S.first_field S.addition pool.now.layout seat.old place (λ _. new) (N.then seat.old.me) }
+    requires allows { MayStep S.SIDES S.SENTINELS S.first_head S.first_field S.addition pool.now.layout seat.old place
+        (λ _. new) (N.then seat.old.me) }
     ensures table { seat.new.table_id ≡ seat.old.table_id }
     ensures told { N.then seat.old.me result seat.new.me }
 {

@@ -1,13 +1,13 @@
 //! Callers that make their calls side by side, each with a pass of its own, in threads.
 #![tactic(auto)]
 
-ghost use Rattle.std.specs.Prelude.{◌≡◌, ◌≤◌, ◌<◌, ◌-◌, ◌^◌, ◌++◌, ◌∷◌, [], length, vec_capacity};
+ghost use Rattle.std.specs.Prelude.{◌≡◌, ◌≤◌, vec_capacity};
 ghost use Rattle.pp_model.specs.Lists.{AtEach};
-ghost use Rattle.pp_model.specs.Calls.{key_of};
 ghost use Rattle.pp_model.specs.MapCalls.{AnswersCalls};
 ghost use Rattle.pp_callers.specs.Jobs.{MayMake, AtBoth};
 
 use pp_model::calling::answer_one;
+use pp_model::lists::enter;
 use pp_model::{Answer, Call, MapCalls};
 use pp_outside::Gate;
 use std::thread::{Threads, for_each_mut};
@@ -102,15 +102,4 @@ fn make_calls<M: MapCalls, G: Gate>(
         enter(answers, answer);
         number = number.saturating_add(1);
     }
-}
-
-/// Enters an answer where there is room.
-fn enter(answers: &mut Vec<Answer>, answer: Answer)
-    requires { length answers.old.items < vec_capacity answers.old }
-    ensures items { answers.new.items ≡ answers.old.items ++ answer ∷ [] }
-    ensures space { vec_capacity answers.old ≤ vec_capacity answers.new }
-{
-    let entered = answers.push(answer);
-    prove!(entered.is_ok());
-    let _ = entered;
 }

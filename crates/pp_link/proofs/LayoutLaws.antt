@@ -2,7 +2,8 @@
 use Rattle.std.proofs.Common.{◌≡◌, ℕ, ◌+◌, ◌*◌, ◌-◌, ◌/◌, ◌%◌, ◌<◌, ◌≤◌, ◌⊎◌, ⊎_elim, refl, arith, ap, ap₂, sym, ◌∙◌}
 use Rattle.std.proofs.lemmas.Bool.{cases_lt}
 use Rattle.pp_link.specs.declared.layout.Sizes.{Sizes}
-use Rattle.pp_link.specs.Places.{IsNumber, IsLayout, Word, seat, walk, frontier, shelf, head, cell, IsWordOf, place_of, total, walk_place, frontier_place, shelf_place, head_place, cell_place, seat_place}
+use Rattle.pp_link.specs.Places.{IsNumber, IsLayout, Word, seat, walk, frontier, shelf, head, cell, IsWordOf, place_of, total}
+use Rattle.pp_link.specs.Places.{walk_place, frontier_place, shelf_place, head_place, cell_place, seat_place}
 
 below : (z : Sizes) (w : Word) → IsWordOf z w → place_of z w < total z
 below z seat is = omega arith

@@ -1,10 +1,11 @@
 //! Calls on any map, made turn by turn.
 
-ghost use Rattle.std.specs.Prelude.{◌≡◌, ◌+◌, ◌-◌, ◌^◌, ◌<◌, ◌≤◌, [], ◌∷◌, ◌++◌, length, vec_capacity};
+ghost use Rattle.std.specs.Prelude.{◌≡◌, ◌-◌, ◌^◌, ◌≤◌, [], length, vec_capacity};
 ghost use Rattle.pp_model.specs.Lists.{AtEach, IsPrefix};
 ghost use Rattle.pp_model.specs.Calls.{key_of};
 ghost use Rattle.pp_model.specs.MapCalls.{MayCall, AnswersCall, AnswersCalls, MineGrew, StandsIn};
 
+use crate::lists::enter;
 use crate::{Answer, Call, MapCalls, Turned};
 
 /// Makes one call, turn by turn, and gives its answer.
@@ -61,15 +62,4 @@ pub fn answer_all<M: MapCalls>(
         let answer = answer_one(map, pass, *call, races);
         enter(answers, answer);
     }
-}
-
-// Enters an answer where there is room.
-fn enter(answers: &mut Vec<Answer>, answer: Answer)
-    requires { length answers.old.items < vec_capacity answers.old }
-    ensures items { answers.new.items ≡ answers.old.items ++ answer ∷ [] }
-    ensures space { vec_capacity answers.old ≤ vec_capacity answers.new }
-{
-    let entered = answers.push(answer);
-    prove!(entered.is_ok());
-    let _ = entered;
 }

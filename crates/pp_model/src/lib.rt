@@ -4,6 +4,7 @@
 
 pub mod calling;
 pub mod laws;
+pub mod lists;
 pub mod map_calls;
 pub mod plain;
 pub mod steps;

@@ -1,6 +1,6 @@
 //! The end of a pool: one seat takes over all passes, the table is ended, and its words are read out.
 
-ghost use Rattle.std.specs.Prelude.{◌≡◌, ℕ, ◌+◌, ◌<◌, ◌≤◌, ◌++◌, ◌∷◌, [], length, map, replicate, true, vec_capacity, IfOk, IfErr};
+ghost use Rattle.std.specs.Prelude.{◌≡◌, ℕ, ◌+◌, ◌<◌, ◌≤◌, [], length, map, replicate, true, vec_capacity, IfOk, IfErr};
 ghost use Rattle.atomic_table.specs.Table.{State, Seen};
 ghost use Rattle.pp_link.specs.Places.{total};
 ghost use Rattle.pp_model.specs.Lists.{AtEach};
@@ -15,11 +15,11 @@ ghost use Rattle.pp_pool.specs.Closed.{AreSeats, IsSeatOf, IsJoined, IsClosedPoo
 ghost use Rattle.pp_pool.specs.Marks.{MarksSpare, marked};
 ghost use Rattle.pp_pool.specs.Rooms.{IsRoomFor};
 
-use crate::lists::enter;
 use atomic_table::Seat;
 use pp_base::seats::{join_seat, tell_seat};
 use pp_base::{Pass, Pool, Purse};
 use pp_link::Layout;
+use pp_model::lists::enter;
 use pp_model::{CloseFault, Closed, Pair};
 use pp_rule::Shape;
 use pp_rule::views::SeatView;

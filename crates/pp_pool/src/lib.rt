@@ -4,7 +4,6 @@
 
 pub mod closing;
 pub mod fresh;
-mod lists;
 pub mod opening;
 
 pub use closing::close;

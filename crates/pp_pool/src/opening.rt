@@ -1,18 +1,18 @@
 //! Opening a pool: its words, and a pass for each of its callers.
 
-ghost use Rattle.std.specs.Prelude.{◌≡◌, ◌+◌, ◌*◌, ◌-◌, ◌<◌, ◌≤◌, ◌^◌, ◌++◌, [], ◌∷◌, length, replicate, vec_capacity, All, IfOk};
+ghost use Rattle.std.specs.Prelude.{◌≡◌, ◌+◌, ◌*◌, ◌-◌, ◌<◌, ◌≤◌, ◌^◌, ◌++◌, [], length, replicate, vec_capacity, All, IfOk};
 ghost use Rattle.pp_link.specs.Places.{IsWithin};
 ghost use Rattle.pp_rule.specs.Opening.{words_from, fields_from, opening_words, share_of, start_of, numbers_from, dealt, first_view};
 ghost use Rattle.pp_rule.specs.Steps.{alone};
 ghost use Rattle.pp_pool.specs.PurseRooms.{IsRoom};
 ghost use Rattle.pp_pool.specs.Opened.{IsNewPass, AreNewPasses};
 
-use crate::lists::enter;
 use atomic_table::{Seat, Table};
 use pp_base::seats::deal_seat;
 use pp_base::{InHand, Pass, Pool, Purse};
 use pp_link::{Field, Layout, Sizes};
 use pp_model::NoMemory;
+use pp_model::lists::enter;
 use pp_rule::Shape;
 use pp_rule::views::SeatView;
 use std::alloc::Global;

@@ -108,7 +108,8 @@ module _ {E A W : Type 0} (sides : ℕ) (opens : Sizes → List ℕ) (addition :
         → KeepsRule sides opens addition load_step place (get_or words place 0) (get_or words place 0) z words g q
         (cond (f && h) (with_walk i (learnt_of side (get_or words place 0) (slot q i)) q) q) g.status [] []
     unfolding cell_word
-    learns place i side words g q b add pass is sizes lt below at false h frozen_is same on = idle_keeps sides opens addition alike load_step place z words g q b add pass is sizes
+    learns place i side words g q b add pass is sizes lt below at false h frozen_is same on =
+        idle_keeps sides opens addition alike load_step place z words g q b add pass is sizes
     learns place i side words g q b add pass is sizes lt below at true false frozen_is same on = absurd (false≢true (same ∙ on))
     learns place i side words g q b add pass is sizes lt below at true true frozen_is same on =
         let n : ℕ = get_or words place 0 in

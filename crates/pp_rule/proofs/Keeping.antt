@@ -154,7 +154,10 @@ module _ {E A W : Type 0} (sides : ℕ) (opens : Sizes → List ℕ) (addition :
       → KeepsRule sides opens addition kind place (get_or words place 0) (get_or words place 0) z words g q q g.status [] []
   idle_keeps alike kind place z words g q b add pass is sizes =
       let e : LoggedStep E A = entry kind place (get_or words place 0) (get_or words place 0) [] [] g.order q in
-      let same : SameBase q q = record { rest = record { number = refl; sizes = refl; retired_are = refl; walk = refl; frontier = refl; chains = refl; scan = refl }; owned = refl } in
+      let same : SameBase q q = record {
+        rest = record { number = refl; sizes = refl; retired_are = refl; walk = refl; frontier = refl; chains = refl; scan = refl };
+        owned = refl;
+      } in
       let b' : Base sides z words (after_step g q g.status e) = base_idle sides z words g q q e b pass is same in
       load_keeps kind place z words g q q g.status [] [] refl sizes b'
       (alike z words words g (after_step g q g.status e) b b'

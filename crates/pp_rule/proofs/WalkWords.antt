@@ -136,7 +136,16 @@ module _ {E A W : Type 0} (sides : ℕ) (opens : Sizes → List ℕ) (addition :
       (λ words g b add pass is sizes fits.
       let e : LoggedStep E A = entry clear_step place 0 0 [] [] g.order q' in
       let new : List ℕ = set words place 0 in
-      let is_set : WalkSet i (naming 0) q q' = record { number = refl; sizes = refl; owned = refl; retired_are = refl; frontier = refl; chains = refl; scan = refl; walk = refl } in
+      let is_set : WalkSet i (naming 0) q q' = record {
+        number = refl;
+        sizes = refl;
+        owned = refl;
+        retired_are = refl;
+        frontier = refl;
+        chains = refl;
+        scan = refl;
+        walk = refl;
+      } in
       let b' : Base sides z new (after_step g q' g.status e) = subst (λ (k : ℕ). Base sides z (set words k 0)
       (after_step g q' g.status e)) (sym at)
       (base_walk_stored sides z words g q q' i 0 e b pass is lt is_set) in

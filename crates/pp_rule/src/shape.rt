@@ -11,7 +11,8 @@ ghost use Rattle.pp_rule.specs.States.{PoolState};
 ghost use Rattle.pp_rule.specs.Rule.{Base};
 ghost use Rattle.pp_rule.specs.Ties.{Holds};
 ghost use Rattle.pp_rule.specs.Opening.{opening_words, first_view};
-ghost use Rattle.pp_rule.specs.Laws.{Freezes, HeadsOpen, LinksOpen, MetAtOpening, KeptAlike, KeptCleared, KeptInvalid, Chained, MayDetach, KeptDetached, Closes};
+ghost use Rattle.pp_rule.specs.Laws.{Freezes, HeadsOpen, LinksOpen, MetAtOpening, KeptAlike, KeptCleared, KeptInvalid};
+ghost use Rattle.pp_rule.specs.Laws.{Chained, MayDetach, KeptDetached, Closes};
 
 use crate::views::{Chain, SeatView, WalkSlot};
 use atomic_table::TableRule;

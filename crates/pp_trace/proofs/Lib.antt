@@ -7,4 +7,3 @@ pub mod Tallies
 pub mod Growth
 pub mod Readings
 pub mod Limits
-pub mod CallerTexts

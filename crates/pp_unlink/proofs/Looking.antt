@@ -307,7 +307,9 @@ module _ {E A W : Type 0} where
       let below : k / sides < length (aside_of k c) = (record_below sides (length (aside_of k c)) k one two low).0 in
       let in_list : before + k / sides < length p'.retired.items = let all = ap (λ (ns : List ℕ). length ns) looks.aside in
       let sum = length-append (known s).retired (aside_of k c) in omega (arith, below, all, sum, start) in
-      let same : n ≡ get_or c.records (k / sides) 0 = is ∙ (get_or_default_zero p'.retired.items (before + k / sides) n in_list ∙ ap (λ (m : ℕ). get_or p'.retired.items (m + k / sides) 0) start
+      let same : n ≡ get_or c.records (k / sides) 0 = is
+      ∙ (get_or_default_zero p'.retired.items (before + k / sides) n in_list
+      ∙ ap (λ (m : ℕ). get_or p'.retired.items (m + k / sides) 0) start
       ∙ (ap (λ (ns : List ℕ). get_or ns (length (known s).retired + k / sides) 0) looks.aside
       ∙ (get_or-append-add (known s).retired (aside_of k c) (k / sides) 0 ∙ next_record sides k (k / sides) c chained below))) in
       let few = aside_few sides k c chained in

@@ -1,6 +1,6 @@
 //! Detaching a chain of records by one exchange.
 
-ghost use Rattle.std.specs.Prelude.{◌≡◌, ◌<◌, ◌≤◌, ℕ, length};
+ghost use Rattle.std.specs.Prelude.{◌≡◌, ◌<◌, ℕ, length};
 ghost use Rattle.pp_link.specs.Links.{word_of};
 ghost use Rattle.pp_base.specs.Passes.{known, view, Fits, IsSame, IsAtRest};
 ghost use Rattle.pp_base.specs.Sources.{source_place, IsReadable};
@@ -45,9 +45,11 @@ pub fn try_unlink<S: Shape>(
     requires fits { Fits pool.now.table.shared.table_id pool.now.layout pass.old.seat }
     requires rest { IsAtRest (known pass.old.seat) pass.old.purse }
     requires readable { IsReadable S.SIDES pool.now.layout (known pass.old.seat) at side }
-    requires may { S.may_detach pool.now.layout (known pass.old.seat).walk (known pass.old.seat).own (source_place pool.now.layout (known pass.old.seat) at side) (word_of first) (word_of frontier) }
+    requires may { S.may_detach pool.now.layout (known pass.old.seat).walk (known pass.old.seat).own
+        (source_place pool.now.layout (known pass.old.seat) at side) (word_of first) (word_of frontier) }
     ensures same { IsSame pass.old.seat pass.new.seat }
-    ensures unlinks { Unlinks S.SIDES pool.now.layout S.chain (source_place pool.now.layout (known pass.old.seat) at side) (word_of first) (word_of frontier) (view pass.old.seat) (view pass.new.seat) result }
+    ensures unlinks { Unlinks S.SIDES pool.now.layout S.chain (source_place pool.now.layout (known pass.old.seat) at side)
+        (word_of first) (word_of frontier) (view pass.old.seat) (view pass.new.seat) result }
     ensures rest { IsAtRest (known pass.new.seat) pass.new.purse }
     ensures walk { pass.new.walk ≡ pass.old.walk }
     ensures purse { SameFree pass.old.purse pass.new.purse }

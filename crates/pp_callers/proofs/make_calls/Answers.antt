@@ -30,7 +30,7 @@ loop-call-preserved g c = record {
       (more _ _ _ _ _ _ c.loop-call.invariant.made c.answer_one-answer.ensures.answered);
   room = omega (arith, c.loop-call.invariant.room, c.answer_one-answer.ensures.answered.grew.room);
   count = omega (arith, c.loop-call.invariant.count, simp length-append at (ap length c.enter.ensures.items));
-  space = omega (arith, c.loop-call.invariant.space, c.enter.ensures.space);
+  space = omega (arith, c.loop-call.invariant.space, c.enter.ensures.room);
 }
 
 pub returns-clause-answered : goal.returns-clause-answered

@@ -13,7 +13,8 @@ load_word-requires-clause-allows g c = let S = g.S.Shape in let pool = c.args.po
 
 pub invariant_of-pass : goal.invariant_of-pass
 invariant_of-pass g c = let pass = c.args.pass.now in let t = c.load_word.ensures.told in let seat = c.load_word.new.seat in record {
-  keeping = keeping_confirmed g.S.Shape.SENTINELS g.S.Shape.SIDES pass.seat seat _ _ _ _ _ c.args.word c.args.first c.load_word.result _ pass.keeping t.0.0 t.1 c.requires.named t.0.1;
+  keeping = keeping_confirmed g.S.Shape.SENTINELS g.S.Shape.SIDES pass.seat seat _ _ _ _ _ c.args.word c.args.first
+      c.load_word.result _ pass.keeping t.0.0 t.1 c.requires.named t.0.1;
 }
 
 pub returns : goal.returns

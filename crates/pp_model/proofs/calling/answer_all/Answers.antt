@@ -47,7 +47,7 @@ loop-call-preserved g c =
       belongs = c.answer_one-answer.ensures.belongs;
       idle = c.answer_one-answer.ensures.idle;
       answered = rw (next, c.enter.ensures.items) chain;
-      space = omega (arith, c.loop-call.invariant.space, c.enter.ensures.space);
+      space = omega (arith, c.loop-call.invariant.space, c.enter.ensures.room);
     }
 
 -- the calls that were made are all
