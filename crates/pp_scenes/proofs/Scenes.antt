@@ -1,5 +1,5 @@
 -- What a scene knows of the passes that it began with, and after one of them went on.
-use Rattle.std.proofs.Common.{◌≡◌, ℕ, zero, suc, List, [], ◌∷◌, slice_set, sym, ap, ◌∙◌, subst, arith}
+use Rattle.std.proofs.Common.{◌≡◌, ◌≢◌, ℕ, zero, suc, ◌<◌, List, [], ◌∷◌, ◌++◌, length, slice_set, refl, sym, ap, ◌∙◌, subst, arith, length-append}
 use Rattle.std.proofs.lemmas.Option.{same_Some}
 use Rattle.atomic_table.specs.Seated.{TableId}
 use Rattle.atomic_table.specs.Table.{Me}
@@ -10,11 +10,15 @@ use Rattle.pp_rule.specs.declared.views.WalkSlot.{WalkSlot}
 use Rattle.pp_rule.specs.declared.views.SeatView.{SeatView}
 use Rattle.pp_rule.specs.declared.shape.Shape.{Ghosts}
 use Rattle.pp_rule.specs.Views.{blank, slot}
+use Rattle.pp_rule.specs.Lists.{times}
 use Rattle.pp_rule.specs.Opening.{dealt}
 use Rattle.pp_rule.proofs.OpeningWords.{each_replicate}
 use Rattle.pp_base.specs.declared.pool.Pass.{Pass}
-use Rattle.pp_base.specs.Passes.{known, IsSame}
-use Rattle.pp_pool.specs.Opened.{IsNewPass}
+use Rattle.pp_base.specs.declared.purse.Purse.{Purse}
+use Rattle.pp_base.specs.Passes.{known, owned_numbers, IsSame}
+use Rattle.pp_pool.specs.Taken.{IsPrivate, Took, GaveBack}
+use Rattle.pp_pool.proofs.Taking.{private_took, private_gave}
+use Rattle.pp_pool.specs.Opened.{IsNewPass, AreNewPasses}
 use Rattle.pp_pool.specs.Closed.{IsSeatOf}
 use Rattle.pp_scenes.specs.Rows.{HoldsFirst}
 
@@ -25,6 +29,42 @@ each_set P (z ∷ xs) zero y each here zero x at = subst (λ v. P 0 v) (same_Som
 each_set P (z ∷ xs) zero y each here (suc k) x at = each (suc k) x at
 each_set P (z ∷ xs) (suc i) y each here zero x at = each zero x at
 each_set P (z ∷ xs) (suc i) y each here (suc k) x at = each_set (λ j. P (suc j)) xs i y (λ j. each (suc j)) here k x at
+
+-- nothing is left of a list of two after both were taken from its end
+two_taken : {A : Type 0} (xs ys zs : List A) (x y : A) → length xs ≡ 2 → xs ≡ ys ++ y ∷ [] → ys ≡ zs ++ x ∷ [] → zs ≡ []
+two_taken xs ys [] x y two last first = refl
+two_taken xs ys (z ∷ zs) x y two last first = let all = ap (λ l. length l) last ∙ length-append ys (y ∷ []) in
+    let rest = ap (λ l. length l) first ∙ length-append (z ∷ zs) (x ∷ []) in absurd (omega (arith, all, rest))
+
+-- so it had those
+two_were : {A : Type 0} (xs ys zs : List A) (x y : A) → length xs ≡ 2 → xs ≡ ys ++ y ∷ [] → ys ≡ zs ++ x ∷ [] → xs ≡ x ∷ y ∷ []
+two_were xs ys zs x y two last first = last ∙ ap (λ l. l ++ y ∷ []) (first ∙ ap (λ l. l ++ x ∷ []) (two_taken xs ys zs x y two last first))
+
+-- what is true of two is true of each of a list of them
+each_of_two : {A : Type 0} (P : ℕ → A → Type 0) (x y : A) → P 0 x → P 1 y → AtEach (x ∷ y ∷ []) P
+each_of_two P x y px py zero v at = subst (λ u. P 0 u) (same_Some x v at) px
+each_of_two P x y px py (suc zero) v at = subst (λ u. P 1 u) (same_Some y v at) py
+each_of_two P x y px py (suc (suc k)) v at = absurd cc
+
+-- both were taken from the end of a list, and two others were put there
+pub both_back : {A : Type 0} (P : ℕ → A → Type 0) (xs ys zs us vs : List A) (x y u v : A) → length xs ≡ 2 → xs ≡ ys ++ y ∷ []
+    → ys ≡ zs ++ x ∷ [] → us ≡ zs ++ u ∷ [] → vs ≡ us ++ v ∷ [] → P 0 u → P 1 v → AtEach vs P
+both_back P xs ys zs us vs x y u v two last first back again pu pv = subst (λ l. AtEach l P)
+    (sym (again ∙ ap (λ l. l ++ v ∷ []) (back ∙ ap (λ l. l ++ u ∷ []) (two_taken xs ys zs x y two last first))))
+    (each_of_two P u v pu pv)
+
+pub same_self : {E A W : Type 0} (s : Seat Unit (SeatView E A W)) → IsSame s s
+same_self s = record { table_is = refl; number = refl; sizes = refl }
+
+module _ {S E A W : Type 0} {shape : Ghosts S E A W} (table : TableId) (z : Sizes) (xs ys zs : List (Pass S E A W shape))
+    (x y : Pass S E A W shape) (each : AreNewPasses table z xs) (two : length xs ≡ 2) (last : xs ≡ ys ++ y ∷ [])
+    (first : ys ≡ zs ++ x ∷ []) where
+  -- the first and the second of two passes of a pool that opened
+  pub opened_first : IsNewPass table z 0 x
+  opened_first = subst (λ l. AreNewPasses table z l) (two_were xs ys zs x y two last first) each 0 x refl
+
+  pub opened_second : IsNewPass table z 1 y
+  opened_second = subst (λ l. AreNewPasses table z l) (two_were xs ys zs x y two last first) each 1 y refl
 
 module _ {S E A W : Type 0} {shape : Ghosts S E A W} where
   -- a new pass holds nothing
@@ -48,3 +88,19 @@ module _ {S E A W : Type 0} {shape : Ghosts S E A W} where
     },
     same.number ∙ ap (λ (m : Me Unit (SeatView E A W)). m.0.known.number) new.knows,
   )
+
+module _ {E A W : Type 0} (s s' : Seat Unit (SeatView E A W)) (p p' : Purse) (m : ℕ) where
+  -- a record is private still where nothing has changed that tells of it
+  pub private_same : owned_numbers (known s') ≡ owned_numbers (known s) → p' ≡ p → IsPrivate (known s) p m → IsPrivate (known s') p' m
+  private_same owned purse was = subst (λ (l : List ℕ). times m p'.free.items < times m l) (sym owned)
+      (subst (λ (r : Purse). times m r.free.items < times m (owned_numbers (known s))) (sym purse) was)
+
+  -- it is after another one was taken
+  pub private_next : (n : ℕ) → s' ≡ s → Took n p p' → IsPrivate (known s) p m → IsPrivate (known s') p' m
+  private_next n seat took was = subst (λ (t : Seat Unit (SeatView E A W)). IsPrivate (known t) p' m) (sym seat)
+      (private_took (known s) n p p' m took was)
+
+  -- it is after another one was given back
+  pub private_yet : (n : ℕ) → n ≢ m → s' ≡ s → GaveBack n p p' → IsPrivate (known s) p m → IsPrivate (known s') p' m
+  private_yet n other seat gave was = subst (λ (t : Seat Unit (SeatView E A W)). IsPrivate (known t) p' m) (sym seat)
+      (private_gave (known s) n p p' m other gave was)

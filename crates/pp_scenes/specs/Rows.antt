@@ -1,5 +1,7 @@
 -- What a pass holds of the row as a scene goes on.
-use Rattle.std.specs.Prelude.{◌≡◌, ℕ, ◌<◌, ◌≤◌, true}
+use Rattle.std.specs.Prelude.{◌≡◌, ◌≢◌, ℕ, ◌<◌, ◌≤◌, true}
+use Rattle.pp_rule.specs.Lists.{IsIn}
+use Rattle.pp_rule.specs.declared.views.WalkSlot.{WalkSlot}
 use Rattle.pp_rule.specs.declared.views.PassState.{PassState}
 use Rattle.pp_rule.specs.Views.{slot}
 
@@ -7,3 +9,19 @@ use Rattle.pp_rule.specs.Views.{slot}
 pub record HoldsFirst {W : Type 0} (n : ℕ) (q : PassState W) : Type 0 where
   pub held : (i : ℕ) → i < n → i < 5 → (slot q i).held ≡ true
   pub clear : (i : ℕ) → n ≤ i → i < 5 → (slot q i).named ≡ 0
+
+-- it holds the record n in the walk word i, and has learnt this word of its left link
+pub record Knows {W : Type 0} (i n word : ℕ) (q : PassState W) : Type 0 where
+  pub held : (slot q i).held ≡ true
+  pub named : (slot q i).named ≡ n
+  pub learnt : IsIn (0, word) (slot q i).learnt
+
+-- the record that was held in a walk word is held still, and what was learnt of it is known still
+pub record Grown (s s' : WalkSlot) : Type 0 where
+  pub held : s'.held ≡ s.held
+  pub named : s'.named ≡ s.named
+  pub learnt : (l : ℕ × ℕ) → IsIn l s.learnt → IsIn l s'.learnt
+
+-- so it is in all walk words but the word i
+abbrev pub GrownBut : {W : Type 0} → ℕ → PassState W → PassState W → Type 0
+GrownBut i q q' = (j : ℕ) → j < 5 → j ≢ i → Grown (slot q j) (slot q' j)

@@ -1,5 +1,12 @@
-//! Worked scenes over a pool of RowShape: what no single clause says, run once each.
+//! Worked scenes over pools of RowShape and of PegShape: what no single clause says, run once each.
 #![tactic(auto)]
 
+#[cfg(test)]
+mod detaching;
+#[cfg(test)]
+mod peg_tests;
+pub mod pegs;
+#[cfg(test)]
+mod staging;
 #[cfg(test)]
 mod tests;

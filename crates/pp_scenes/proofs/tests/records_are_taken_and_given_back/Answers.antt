@@ -1,0 +1,15 @@
+use Rattle.std.proofs.Common.{sym, arith, rules}
+use Rattle.std.proofs.lemmas.Option.{slice_get_read}
+use Rattle.pp_scenes.proofs.Scenes.{each_set, seat_after}
+use Rattle.pp_scenes.proofs.tests.records_are_taken_and_given_back.Goals as goal
+
+pub end-closed-requires-clause-each : goal.end-closed-requires-clause-each
+end-closed-requires-clause-each g c = let passes = c.open-pool.result.1.items in let pass = c.index_mut.result.now in
+    let new = c.open-pool.ensures.passes 0 pass
+    (slice_get_read passes 2 0 pass (sym c.open-pool.ensures.count) (omega arith) c.index_mut.ensures.value) in
+    each_set _ passes 0 c.take_and_give_back.new.pass (search rules)
+    (seat_after _ _ _ 0 pass c.take_and_give_back.new.pass.seat new c.open-pool.ensures.sizes c.take_and_give_back.ensures.same)
+
+pub end-closed-requires-clause-idle : goal.end-closed-requires-clause-idle
+end-closed-requires-clause-idle g c = each_set _ c.open-pool.result.1.items 0 c.take_and_give_back.new.pass
+    (search rules) c.take_and_give_back.ensures.idle
