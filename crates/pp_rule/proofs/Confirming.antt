@@ -1,5 +1,5 @@
 -- The first load of a link, and the second, which confirms what was announced.
-use Rattle.std.proofs.Common.{◌≡◌, ◌≢◌, ℕ, ◌+◌, ◌<◌, Bool, true, false, cond, ◌&&◌, List, [], ◌∷◌, length, get_or}
+use Rattle.std.proofs.Common.{◌≡◌, ◌≢◌, ℕ, suc, ◌+◌, ◌<◌, Bool, true, false, cond, ◌&&◌, List, [], ◌∷◌, length, get_or}
 use Rattle.std.proofs.Common.{refl, sym, ap, ◌∙◌, subst, inl, inr, ⊎_elim, arith}
 use Rattle.std.proofs.Math.Bool.{false≢true}
 use Rattle.std.proofs.Math.Decide.{ℕ_discrete}
@@ -127,7 +127,8 @@ module _ {E A W : Type 0} (sides : ℕ) (opens : Sizes → List ℕ) (addition :
         record {
           own = sym (ap (λ v. v.own) is);
           holds = subst (λ (v : PassState W). HoldsOn v q') (sym is)
-              (holds_on_same q q' i w refl deep refl refl);
+              (holds_on_same q q' i w refl deep
+              (λ h. record { held = h; named = refl; key = refl; value = refl; learnt = λ l m. (suc m.0, m.1) }));
         }) add)
 
     pub loads_held : (slots id place i side : ℕ) (me : Me Unit (SeatView E A W)) → IsAlone me → i < 5 → side < sides

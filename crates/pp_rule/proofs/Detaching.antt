@@ -1,7 +1,7 @@
 -- The exchange that detaches a chain, and the one that finds another word.
-use Rattle.std.proofs.Common.{◌≡◌, ◌≢◌, ◌⊎◌, ℕ, ◌+◌, ◌*◌, ◌<◌, ◌≤◌, Bool, true, false, cond, eqb, List, [], ◌∷◌, ◌++◌, length, get_or, set}
+use Rattle.std.proofs.Common.{◌≡◌, ◌≢◌, ◌⊎◌, ℕ, ◌+◌, ◌<◌, ◌≤◌, Bool, true, false, cond, eqb, List, [], ◌∷◌, ◌++◌, length, get_or, set}
 use Rattle.std.proofs.Common.{refl, sym, ap, ◌∙◌, subst, inl, inr, ⊎_elim, arith, eq-eqb, ne_eqb}
-use Rattle.std.proofs.lemmas.List.{length-set, get_or-set_same, get_or-set_other}
+use Rattle.std.proofs.lemmas.List.{length-set}
 use Rattle.std.proofs.Math.Bool.{false≢true}
 use Rattle.std.proofs.Math.Decide.{ℕ_discrete}
 use prog.Atomic.{either}
@@ -12,7 +12,7 @@ use Rattle.atomic_table.specs.Table.{Me, Allows}
 use Rattle.pp_link.specs.declared.layout.Sizes.{Sizes}
 use Rattle.pp_link.specs.Links.{target, invalid_bit}
 use Rattle.pp_link.specs.Places.{IsNumber, head_place, cell_place}
-use Rattle.pp_link.specs.Words.{walk_word, frontier_word, shelf_word, head_word, cell_word}
+use Rattle.pp_link.specs.Words.{frontier_word, shelf_word, head_word, cell_word}
 use Rattle.pp_rule.specs.Lists.{IsIn, OnceBy, Once}
 use Rattle.pp_rule.specs.Orders.{LoggedStep, stores, detach_step, missed_step}
 use Rattle.pp_rule.specs.Views.{WalkSlot, Chain, PassState, SeatView, slot, guarding}
@@ -26,6 +26,7 @@ use Rattle.pp_rule.specs.Detach.{Detaches, Detached, Exchanged}
 use Rattle.pp_rule.specs.Laws.{KeptAlike, MayDetach, KeptDetached}
 use Rattle.pp_rule.proofs.Put.{put, put_each, in_left, in_either, in_last, in_one, only}
 use Rattle.pp_rule.proofs.Slots.{same_own}
+use Rattle.pp_rule.proofs.FreeLinks.{LinkStored, link_stored}
 use Rattle.pp_rule.proofs.Stepping.{after_step, Plays, allows_by}
 use Rattle.pp_rule.proofs.Frames.{reads_after, shelves_after}
 use Rattle.pp_rule.proofs.Keeping.{idle_keeps}
@@ -62,53 +63,17 @@ module _ {E A W : Type 0} (sides : ℕ) (z : Sizes) (words : List ℕ) (g : Pool
   used_on n used = ⊎_elim (λ (i : IsIn n c.records). subst IsUsed (sym (inside n i)) tt)
       (λ (out : IsIn n c.records → ⊥). subst IsUsed (sym (outside n out)) used) (in_or_out n c.records)
 
-  -- the words at other places are as they were
-  elsewhere : (at : ℕ) → at ≢ place → get_or new at 0 ≡ get_or words at 0
-  elsewhere at ne = get_or-set_other words place at value 0 ne
-
-  same_walk : (p i : ℕ) → p < z.passes → i < 5 → walk_word new z p i ≡ walk_word words z p i
-  unfolding walk_word
-  same_walk p i low five = let high = d.place_is.high.1 in elsewhere (1 + 5 * p + i) (omega arith)
-
-  same_frontier : (p j : ℕ) → p < z.passes → j < 4 → frontier_word new z p j ≡ frontier_word words z p j
-  unfolding frontier_word
-  same_frontier p j low four = let high = d.place_is.high.1 in elsewhere (1 + 5 * z.passes + 4 * p + j) (omega arith)
-
-  same_shelf : (j : ℕ) → j < 8 * z.passes → shelf_word new z j ≡ shelf_word words z j
-  unfolding shelf_word
-  same_shelf j low = let high = d.place_is.high.1 in elsewhere (1 + 9 * z.passes + j) (omega arith)
-
-  other_head : (h : ℕ) → head_place z h ≢ place → head_word new z h ≡ head_word words z h
-  unfolding head_word
-  other_head h ne = elsewhere (head_place z h) ne
-
-  this_head : (h : ℕ) → head_place z h ≡ place → head_word new z h ≡ value
-  unfolding head_word
-  this_head h e = ap (λ (k : ℕ). get_or new k 0) e ∙ here
-    where
-      here : get_or new place 0 ≡ value
-      here = let low = d.place_is.high.0 in let wide = b.wide in get_or-set_same words place value 0 (omega arith)
-
-  other_cell : (n f : ℕ) → cell_place z n f ≢ place → cell_word new z n f ≡ cell_word words z n f
-  unfolding cell_word
-  other_cell n f ne = elsewhere (cell_place z n f) ne
-
-  this_cell : (n f : ℕ) → cell_place z n f ≡ place → cell_word new z n f ≡ value
-  unfolding cell_word
-  this_cell n f e = let low = d.place_is.high.0 in let wide = b.wide in
-      ap (λ (k : ℕ). get_or new k 0) e ∙ get_or-set_same words place value 0 (omega arith)
-
-  -- only an attached record that stays has its link there
-  unplaced : (n f : ℕ) → IsNumber z n → f < 4 → g.status n ≢ attached → cell_word new z n f ≡ cell_word words z n f
-  unplaced n f number four ne = other_cell n f (λ e. ne (d.place_is.holder n f number four e).1)
+  -- the words after the step
+  stored : LinkStored z words g place value
+  stored = link_stored z words g place value b.wide d.place_is
 
   member_link : (n side : ℕ) → IsIn n c.records → side < sides → cell_word new z n (2 + side) ≡ cell_word words z n (2 + side)
-  member_link n side i lt = let most = b.two in other_cell n (2 + side) (λ e. d.stays n (2 + side) (d.members n i).0 (omega arith) e i)
+  member_link n side i lt = let most = b.two in stored.other_cell n (2 + side) (λ e. d.stays n (2 + side) (d.members n i).0 (omega arith) e i)
 
   hand_link : (n side r j : ℕ) → IsNumber z n → side < sides → g.status n ≡ in_hand r j
       → cell_word new z n (2 + side) ≡ cell_word words z n (2 + side)
-  hand_link n side r j number lt state = let most = b.two in unplaced n (2 + side) number (omega arith)
-      (λ e. let bad : attached ≡ in_hand r j = sym e ∙ state in absurd cc)
+  hand_link n side r j number lt state = let most = b.two in stored.unattached n (2 + side) (in_hand r j) number (omega arith)
+      state (λ (e : in_hand r j ≡ attached). absurd cc)
 
   -- what leads to none of the chain leads on
   leads_on : (w : ℕ) → (IsIn (target w) c.records → ⊥) → Leads z g.status w → Leads z detached_status w
@@ -146,8 +111,8 @@ module _ {E A W : Type 0} (sides : ℕ) (z : Sizes) (words : List ℕ) (g : Pool
 
   privates_now : PrivateWords z new g.of
   privates_now = record {
-    reads = λ r e low i. let his = b.numbers.owned_to r e low i in reads_after z words new e (λ f four. unplaced e.number f his.0 four
-        (λ (state : g.status e.number ≡ attached). let bad : owned r ≡ attached = sym his.1 ∙ state in absurd cc))
+    reads = λ r e low i. let his = b.numbers.owned_to r e low i in reads_after z words new e (λ f four. stored.unattached e.number f (owned r) his.0 four
+        his.1 (λ (e : owned r ≡ attached). absurd cc))
         (b.privates.reads r e low i);
   }
 
@@ -155,25 +120,21 @@ module _ {E A W : Type 0} (sides : ℕ) (z : Sizes) (words : List ℕ) (g : Pool
   hazards_now = record {
     five = b.hazards.five;
     four = b.hazards.four;
-    walks = λ r i low lt. same_walk r i low lt ∙ b.hazards.walks r i low lt;
-    frontiers = λ r j low lt. same_frontier r j low lt ∙ b.hazards.frontiers r j low lt;
+    walks = λ r i low lt. stored.walks r i low lt ∙ b.hazards.walks r i low lt;
+    frontiers = λ r j low lt. stored.frontiers r j low lt ∙ b.hazards.frontiers r j low lt;
     held = held_now;
   }
     where
-      low_field : (n f : ℕ) → IsNumber z n → f < 2 → cell_word new z n f ≡ cell_word words z n f
-      low_field n f number two = other_cell n f (λ e. let high : 2 ≤ f = (d.place_is.holder n f number (omega arith) e).0 in
-          absurd (omega arith))
-
       held_now : (r i : ℕ) → r < z.passes → i < 5 → (slot (g.of r) i).held ≡ true → Held z new detached_status (slot (g.of r) i)
       held_now r i low five on = let w : WalkSlot = slot (g.of r) i in let h : Held z words g.status w = b.hazards.held r i low five on in
           record {
             number = h.number;
             used = used_on w.named h.used;
-            key = low_field w.named 0 h.number (omega arith) ∙ h.key;
-            value = low_field w.named 1 h.number (omega arith) ∙ h.value;
+            key = stored.fields w.named 0 h.number (omega arith) ∙ h.key;
+            value = stored.fields w.named 1 h.number (omega arith) ∙ h.value;
             learnt = λ l k. let was = h.learnt l k in (
               was.0,
-              subst (Stays l.1) (sym (other_cell w.named (2 + l.0) (d.place_is.unlearnt r i l low five on k))) was.1,
+              subst (Stays l.1) (sym (stored.other_cell w.named (2 + l.0) (d.place_is.unlearnt r i l low five on k))) was.1,
               was.2,
             );
           }
@@ -182,14 +143,14 @@ module _ {E A W : Type 0} (sides : ℕ) (z : Sizes) (words : List ℕ) (g : Pool
   -- leads as it did, and what it leads to is now nil, in hand with it, or what its frontier word names.
   links_now : Links sides z new detached_status
   links_now = let most = b.two in record {
-    heads = λ h low. dite (ℕ_discrete (head_place z h) place) (λ e. subst (Leads z detached_status) (sym (this_head h e)) new_leads)
-        (λ ne. subst (Leads z detached_status) (sym (other_head h ne))
+    heads = λ h low. dite (ℕ_discrete (head_place z h) place) (λ e. subst (Leads z detached_status) (sym (stored.this_head h e)) new_leads)
+        (λ ne. subst (Leads z detached_status) (sym (stored.other_head h ne))
         (leads_on (head_word words z h) (d.heads h low ne) (b.links.heads h low)));
     linked = λ n side number lt state.
         let was = was_state n attached state (λ (e : attached ≡ in_hand q.number c.guard). absurd cc) in
         dite (ℕ_discrete (cell_place z n (2 + side)) place) (λ e. subst (Leads z detached_status)
-        (sym (this_cell n (2 + side) e)) new_leads)
-        (λ ne. subst (Leads z detached_status) (sym (other_cell n (2 + side) ne)) (leads_on (cell_word words z n (2 + side))
+        (sym (stored.this_cell n (2 + side) e)) new_leads)
+        (λ ne. subst (Leads z detached_status) (sym (stored.other_cell n (2 + side) ne)) (leads_on (cell_word words z n (2 + side))
         (d.others n side number lt was.1 was.0 ne) (b.links.linked n side number lt was.1)));
     hand = λ n side r j number lt state. ⊎_elim
         (λ (i : IsIn n c.records). let same : in_hand r j ≡ in_hand q.number c.guard = sym state ∙ inside n i in
@@ -200,8 +161,8 @@ module _ {E A W : Type 0} (sides : ℕ) (z : Sizes) (words : List ℕ) (g : Pool
         (λ (out : IsIn n c.records → ⊥). old_leaves n side r j number lt (sym (outside n out) ∙ state)) (in_or_out n c.records);
     spent = λ n side r number lt state.
         let was = was_state n (retired r) state (λ (e : retired r ≡ in_hand q.number c.guard). absurd cc) in
-        subst (λ (w : ℕ). IsSmall w × (invalid_bit w ≡ 1)) (sym (unplaced n (2 + side) number (omega arith)
-        (λ (e : g.status n ≡ attached). let bad : retired r ≡ attached = sym was.1 ∙ e in absurd cc)))
+        subst (λ (w : ℕ). IsSmall w × (invalid_bit w ≡ 1)) (sym (stored.unattached n (2 + side) (retired r) number
+        (omega arith) was.1 (λ (e : retired r ≡ attached). absurd cc)))
         (b.links.spent n side r number lt was.1);
   }
     where
@@ -210,7 +171,7 @@ module _ {E A W : Type 0} (sides : ℕ) (z : Sizes) (words : List ℕ) (g : Pool
           (cell_word new z n (2 + side))
       member_leaves n side i lt = let w : ℕ = cell_word words z n (2 + side) in
           let l : Leads z g.status w = b.links.linked n side (d.members n i).0 lt (d.members n i).1 in
-          let guard_now : frontier_word new z q.number c.guard ≡ x = same_frontier q.number c.guard pass d.guard
+          let guard_now : frontier_word new z q.number c.guard ≡ x = stored.frontiers q.number c.guard pass d.guard
           ∙ (b.hazards.frontiers q.number c.guard pass d.guard ∙ (ap (λ (v : PassState W). guarding v c.guard) is ∙ d.named)) in
           subst (Leaves z new detached_status q.number c.guard) (sym (member_link n side i lt)) record {
             small = l.small;
@@ -235,7 +196,7 @@ module _ {E A W : Type 0} (sides : ℕ) (z : Sizes) (words : List ℕ) (g : Pool
           let scope : (r < z.passes) × (j < 4) = subst (IsStateIn z) state (b.numbers.scope n number) in
           let l : Leaves z words g.status r j w = b.links.hand n side r j number lt state in
           subst (Leaves z new detached_status r j) (sym (hand_link n side r j number lt state))
-          (leaves_on z words new detached_status w r j (same_frontier r j scope.0 scope.1) record {
+          (leaves_on z words new detached_status w r j (stored.frontiers r j scope.0 scope.1) record {
             small = l.small;
             to = λ valid. ⊎_elim inl
                 (λ (t : IsNumber z (target w) × ((g.status (target w) ≡ in_hand r j)
@@ -251,7 +212,7 @@ module _ {E A W : Type 0} (sides : ℕ) (z : Sizes) (words : List ℕ) (g : Pool
 
   shelves_now : Shelves z new detached_status
   shelves_now = shelves_after z words new detached_status (λ n j state number. subst (IsStateIn z) state
-      (numbers_now.scope n number)) same_shelf
+      (numbers_now.scope n number)) stored.shelves
       record {
         named = λ j low. ⊎_elim inl (λ (t : IsNumber z (shelf_word words z j) × (g.status (shelf_word words z j) ≡ shelved j)).
             inr (t.0, stays_state (shelf_word words z j) (shelved j) t.1 (λ (e : shelved j ≡ attached). absurd cc)))

@@ -13,7 +13,10 @@ pub mod Frontiers
 pub mod Chained
 pub mod Invalidating
 pub mod Retiring
+pub mod FreeLinks
 pub mod Detaching
+pub mod Relinking
+pub mod Publishing
 pub mod Without
 pub mod Scanning
 pub mod Freeing

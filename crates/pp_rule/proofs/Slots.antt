@@ -5,7 +5,10 @@ use Rattle.std.proofs.Math.Bool.{false≢true}
 use Rattle.std.proofs.Math.Decide.{ℕ_discrete}
 use mathlib.Core.Logic.{dite}
 use Rattle.pp_rule.specs.Views.{WalkSlot, naming, blank, PassState, slot, guarding}
-use Rattle.pp_rule.specs.Looks.{HoldsOn, SameOwn, Clears}
+use Rattle.pp_rule.specs.Looks.{StillHeld, HoldsOn, SameOwn, Clears}
+
+still_self : (s : WalkSlot) → s.held ≡ true → StillHeld s s
+still_self s h = record { held = h; named = refl; key = refl; value = refl; learnt = λ l i. i }
 
 module _ {W : Type 0} where
   -- The walk word i has the slot w. The lists and the frontier words are as they were, and the shape's part may be any.
@@ -38,8 +41,7 @@ module _ {W : Type 0} where
   -- a word in which nothing is held may get any slot
   pub holds_on_free : (q q' : PassState W) (i : ℕ) (w : WalkSlot) → q'.walk ≡ set q.walk i w → (slot q i).held ≡ false → HoldsOn q q'
   holds_on_free q q' i w is free = record {
-    held = λ j five h. subst (λ (s : WalkSlot). s.held ≡ true) (sym (slot_else q q' i w is j (other j h))) h;
-    named = λ j five h. ap (λ (s : WalkSlot). s.named) (slot_else q q' i w is j (other j h));
+    each = λ j five h. subst (StillHeld (slot q j)) (sym (slot_else q q' i w is j (other j h))) (still_self (slot q j) h);
   }
     where
       other : (j : ℕ) → (slot q j).held ≡ true → j ≢ i
@@ -47,17 +49,15 @@ module _ {W : Type 0} where
 
   -- a word may get another slot that holds the same record
   pub holds_on_same : (q q' : PassState W) (i : ℕ) (w : WalkSlot) → q'.walk ≡ set q.walk i w → i < length q.walk
-      → w.held ≡ (slot q i).held → w.named ≡ (slot q i).named → HoldsOn q q'
-  holds_on_same q q' i w is low held named = record {
-    held = λ j five. each_slot (λ k s. (slot q k).held ≡ true → s.held ≡ true) q q' i w is low (λ h. held ∙ h) (λ k k5 ne h. h) j five;
-    named = λ j five. each_slot (λ k s. (slot q k).held ≡ true
-        → s.named ≡ (slot q k).named) q q' i w is low (λ h. named) (λ k k5 ne h. refl) j five;
+      → ((slot q i).held ≡ true → StillHeld (slot q i) w) → HoldsOn q q'
+  holds_on_same q q' i w is low same = record {
+    each = λ j five. each_slot (λ k s. (slot q k).held ≡ true → StillHeld (slot q k) s) q q' i w is low same
+        (λ k k5 ne h. still_self (slot q k) h) j five;
   }
 
   pub holds_on_self : (q q' : PassState W) → q'.walk ≡ q.walk → HoldsOn q q'
   holds_on_self q q' is = record {
-    held = λ j five h. ap (λ (l : List WalkSlot). (get_or l j blank).held) is ∙ h;
-    named = λ j five h. ap (λ (l : List WalkSlot). (get_or l j blank).named) is;
+    each = λ j five h. subst (λ (l : List WalkSlot). StillHeld (slot q j) (get_or l j blank)) (sym is) (still_self (slot q j) h);
   }
 
   pub same_own : (q q' : PassState W) → q'.own ≡ q.own → q'.walk ≡ q.walk → SameOwn q q'

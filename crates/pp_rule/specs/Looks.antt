@@ -4,15 +4,24 @@ use Rattle.pp_link.specs.declared.layout.Sizes.{Sizes}
 use Rattle.pp_link.specs.Links.{invalid_bit}
 use Rattle.pp_link.specs.Places.{IsNumber}
 use Rattle.pp_link.specs.Words.{head_word, cell_word}
+use Rattle.pp_rule.specs.Lists.{IsIn}
 use Rattle.pp_rule.specs.Orders.{IsQuietStep}
-use Rattle.pp_rule.specs.Views.{PassState, slot}
+use Rattle.pp_rule.specs.Views.{WalkSlot, PassState, slot}
 use Rattle.pp_rule.specs.States.{attached, in_hand, IsUsed, IsLinked, PoolState, Stays}
+
+-- The record that is held in a walk word still is, with the key and the value that it was published with, and what was learnt of it
+-- is known.
+pub record StillHeld (s s' : WalkSlot) : Type 0 where
+  pub held : s'.held ≡ true
+  pub named : s'.named ≡ s.named
+  pub key : s'.key ≡ s.key
+  pub value : s'.value ≡ s.value
+  pub learnt : (l : ℕ × ℕ) → IsIn l s.learnt → IsIn l s'.learnt
 
 module _ {W : Type 0} where
   -- the pass holds all that it held, and perhaps more
   pub record HoldsOn (q q' : PassState W) : Type 0 where
-    pub held : (i : ℕ) → i < 5 → (slot q i).held ≡ true → (slot q' i).held ≡ true
-    pub named : (i : ℕ) → i < 5 → (slot q i).held ≡ true → (slot q' i).named ≡ (slot q i).named
+    pub each : (i : ℕ) → i < 5 → (slot q i).held ≡ true → StillHeld (slot q i) (slot q' i)
 
   pub record SameOwn (q q' : PassState W) : Type 0 where
     pub own : q'.own ≡ q.own
