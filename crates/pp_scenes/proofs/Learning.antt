@@ -1,26 +1,17 @@
 -- What a pass keeps of the records that it holds as it loads their links.
-use Rattle.std.proofs.Common.{◌≡◌, ◌≢◌, ℕ, suc, ◌<◌, Bool, true, false, cond, ◌&&◌, ◌∷◌, length, List, get_or, refl, sym, ap, ◌∙◌, subst}
+use Rattle.std.proofs.Common.{◌≡◌, ℕ, suc, ◌<◌, Bool, true, false, cond, ◌&&◌, ◌∷◌, length, refl, sym, ap, subst}
 use Rattle.std.proofs.Math.Decide.{ℕ_discrete}
 use mathlib.Core.Logic.{dite}
-use Rattle.atomic_table.specs.declared.shared.Seat.{Seat}
 use Rattle.pp_link.specs.declared.layout.Sizes.{Sizes}
-use Rattle.pp_rule.specs.Lists.{IsIn}
 use Rattle.pp_rule.specs.declared.views.WalkSlot.{WalkSlot}
 use Rattle.pp_rule.specs.declared.views.PassState.{PassState}
-use Rattle.pp_rule.specs.declared.views.SeatView.{SeatView}
-use Rattle.pp_rule.specs.declared.views.Chain.{Chain}
 use Rattle.pp_rule.specs.Views.{slot}
 use Rattle.pp_rule.specs.Steps.{with_walk}
 use Rattle.pp_rule.proofs.Slots.{slot_here, slot_else}
-use Rattle.pp_rule.proofs.Made.{known_after}
-use Rattle.pp_base.specs.declared.purse.Purse.{Purse}
 use Rattle.pp_base.specs.declared.source.Side.{Side}
 use Rattle.pp_base.specs.declared.source.Place.{Place}
 use Rattle.pp_base.specs.declared.source.Place.TheVariants.{Head, Walk}
-use Rattle.pp_base.specs.Passes.{known, view, IsAtRest}
 use Rattle.pp_base.specs.Sources.{side_number, IsReadable, learning_at}
-use Rattle.pp_base.specs.Made.{LoadedAt}
-use Rattle.pp_hazard.specs.Protection.{SameBut}
 use Rattle.pp_scenes.specs.Rows.{Grown, GrownBut}
 
 grown_same : (s : WalkSlot) → Grown s s

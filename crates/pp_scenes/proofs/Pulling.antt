@@ -6,19 +6,17 @@ use Rattle.pp_link.specs.Places.{head_place}
 use Rattle.pp_rule.specs.declared.views.WalkSlot.{WalkSlot}
 use Rattle.pp_rule.specs.declared.views.PassState.{PassState}
 use Rattle.pp_rule.specs.declared.views.SeatView.{SeatView}
-use Rattle.pp_rule.specs.Views.{slot, guarding}
-use Rattle.pp_rule.specs.Steps.{IsUnused, with_walk}
+use Rattle.pp_rule.specs.Views.{slot}
+use Rattle.pp_rule.specs.Steps.{with_walk}
 use Rattle.pp_rule.specs.Lists.{IsIn}
 use Rattle.pp_rule.proofs.Slots.{slot_here}
 use Rattle.pp_rule.proofs.Made.{known_after}
-use Rattle.pp_base.specs.declared.purse.Purse.{Purse}
 use Rattle.pp_base.specs.declared.source.Side.TheVariants.{Left}
 use Rattle.pp_base.specs.declared.source.Place.TheVariants.{Walk}
-use Rattle.pp_base.specs.Passes.{known, IsAtRest}
+use Rattle.pp_base.specs.Passes.{known}
 use Rattle.pp_base.specs.Made.{LoadedAt}
 use Rattle.pp_base.specs.Sources.{learning_at}
 use Rattle.pp_base.specs.Row.{has_flag, Learnt}
-use Rattle.pp_hazard.specs.Protection.{SameBut}
 use Rattle.pp_scenes.specs.Pegs.{MayPull}
 
 module _ {W : Type 0} where

@@ -5,7 +5,7 @@ use Rattle.std.proofs.Math.Decide.{ℕ_discrete}
 use Rattle.std.proofs.lemmas.Bool.{cases_lt, lt-ltb, le-ltb}
 use mathlib.Core.Logic.{dite}
 use Rattle.pp_link.specs.declared.layout.Sizes.{Sizes}
-use Rattle.pp_link.specs.Links.{target, invalid_bit, flag_bit, leaf_bit}
+use Rattle.pp_link.specs.Links.{target, flag_bit, leaf_bit}
 use Rattle.pp_link.specs.Places.{IsWithin, IsNumber, head_place, cell_place}
 use Rattle.pp_link.specs.Words.{head_word, cell_word}
 use Rattle.pp_link.proofs.Stores.{head_stored}
@@ -17,7 +17,7 @@ use Rattle.pp_rule.specs.declared.views.LoggedStep.{LoggedStep}
 use Rattle.pp_rule.specs.declared.views.PassState.{PassState}
 use Rattle.pp_rule.specs.declared.views.WalkSlot.{WalkSlot}
 use Rattle.pp_rule.specs.Views.{guarding}
-use Rattle.pp_rule.specs.States.{RecordState, attached, in_hand, retired, owned, shelved, IsUsed, IsLinked, PoolState, Stays, SameTarget}
+use Rattle.pp_rule.specs.States.{attached, IsLinked, PoolState, Stays, SameTarget}
 use Rattle.pp_rule.specs.Rule.{Base}
 use Rattle.pp_rule.specs.Looks.{SameSeen}
 use Rattle.pp_rule.specs.Steps.{IsUnused}
