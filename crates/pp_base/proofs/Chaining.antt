@@ -30,7 +30,7 @@ use Rattle.pp_rule.specs.States.{PoolState}
 use Rattle.pp_rule.specs.Rule.{number_of}
 use Rattle.pp_rule.specs.Ties.{Holds}
 use Rattle.pp_rule.specs.Steps.{IsAlone, MadeQuietStep, with_frontier, IsUnused, Invalidated, invalidated, without_link, with_chain, retiring, detaching}
-use Rattle.pp_rule.specs.Laws.{KeptAlike, KeptInvalid, MayDetach, KeptDetached}
+use Rattle.pp_rule.specs.Laws.{KeptAlike, Freezes, KeptInvalid, Chained, MayDetach, KeptDetached}
 use Rattle.pp_rule.specs.Detach.{Exchanged}
 use Rattle.pp_rule.proofs.Detaching.{detaches_chain}
 use Rattle.pp_rule.specs.Opening.{share_of}
@@ -42,12 +42,13 @@ use Rattle.pp_base.specs.declared.purse.Purse.{Purse}
 use Rattle.pp_base.specs.Passes.{known, named_of, in_hand_of, IsPassOf, IsSame, HasRoom, Keeping}
 use Rattle.pp_base.specs.declared.source.Side.{Side}
 use Rattle.pp_base.specs.declared.source.Side.TheVariants.{Left, Right}
-use Rattle.pp_base.specs.Sources.{side_number, source_place, IsReadable}
+use Rattle.pp_base.specs.Sources.{side_number, source_place, IsReadable, learning_at}
 use Rattle.pp_base.specs.declared.source.Place.{Place}
+use Rattle.pp_base.specs.declared.source.Place.TheVariants.{Head, Walk}
 use Rattle.pp_base.specs.Chains.{with_guard, no_chain, chain_at, spent_numbers, LetGo, TookInHand, MayTake}
 use Rattle.pp_base.proofs.Telling.{telling, made_alone, made_known}
 use Rattle.pp_base.proofs.Moves.{source_of}
-use Rattle.pp_base.proofs.Steady.{keeping_idle, same_known}
+use Rattle.pp_base.proofs.Steady.{keeping_loaded, same_loaded, same_known}
 
 -- the entry at an index that the list has
 pub elem_at : {X : Type 0} (xs : List X) (k : ℕ) (d : X) → k < length xs → get_elem? xs k ≡ some (get_or xs k d)
@@ -138,7 +139,7 @@ oldest_guard cs hs h same lt is = ap (λ x. x.guard) (is ∙ ap (λ (l : List In
     go [] lt = absurd (omega arith)
     go (c ∷ cs) lt = refl
 
-pub side_low : (s : Side) → 2 + side_number s < 4
+pub side_low : (s : Side) → 2 + side_number s < 5
 side_low Left = omega arith
 side_low Right = omega arith
 
@@ -164,9 +165,11 @@ lets_go p kept j guard same items room = record {
 pub frontier_low : (z : Sizes) (p j place : ℕ) → p < z.passes → j < 4 → place ≡ frontier_place z p j → place < total z
 frontier_low z p j place pass four is = omega arith
 
-exchanged_alone : {E A W : Type 0} (c : Chain) (first new n place : ℕ) (v : SeatView E A W) (m : Me Unit (SeatView E A W)) → m.1 ≡ []
-    → Exchanged c first new n place v m.0 → IsAlone m
-exchanged_alone c first new n place v m none x = dite (ℕ_discrete n first) (λ e. made_alone m none (x.same e)) (λ ne. made_alone m none (x.other ne))
+exchanged_alone : {E A W : Type 0} (c : Chain) (first new n place : ℕ) (q : PassState W) (v : SeatView E A W)
+    (m : Me Unit (SeatView E A W))
+    → m.1 ≡ [] → Exchanged c first new n place q v m.0 → IsAlone m
+exchanged_alone c first new n place q v m none x = dite (ℕ_discrete n first) (λ e. made_alone m none (x.same e))
+    (λ ne. made_alone m none (x.other ne))
 
 module _ {E A W : Type 0} (sides : ℕ) (opens : Sizes → List ℕ) (addition : Sizes → List ℕ → PoolState E A W
     → Type 0) (z : Sizes) (slots id place : ℕ) (me : Me Unit (SeatView E A W)) where
@@ -186,21 +189,45 @@ module _ {E A W : Type 0} (sides : ℕ) (opens : Sizes → List ℕ) (addition :
       (λ _ m'. (m'.1 ≡ []) × MadeQuietStep unguard_step place 0 0 (with_frontier j 0 me.0.known) me.0 m'.0)
       (unguards_frontier sides opens addition alike z slots id place j me lone lt unused at) (λ _ m t. made_alone m t.0 t.1)
 
-  pub detaches_on : KeptAlike sides addition → (chain : List WalkSlot → W → ℕ → ℕ → ℕ → Chain)
-      → (may_detach : Sizes → List WalkSlot → W → ℕ → ℕ → ℕ → Type 0) → MayDetach sides addition chain may_detach
-      → KeptDetached sides addition chain may_detach → (guard first new : ℕ) (at : Place) (side : Side) → IsAlone me
+  pub detaches_on : KeptAlike sides addition → (frozen : ℕ → Bool) → Freezes frozen
+      → (chain : List WalkSlot → W → ℕ → ℕ → ℕ → Chain)
+      → (may_detach : Sizes → List WalkSlot → W → ℕ → ℕ → ℕ → Type 0) → Chained sides addition chain may_detach
+      → MayDetach sides addition chain may_detach → KeptDetached sides addition chain may_detach
+      → (guard first new : ℕ) (at : Place)
+      (side : Side) → IsAlone me
       → IsReadable sides z me.0.known at side → place ≡ source_place z me.0.known at side
       → may_detach z me.0.known.walk me.0.known.own (source_place z me.0.known at side) first new
       → guard < 4 → guarding me.0.known guard ≡ target new → IsUnused guard me.0.known
       → Allows (Holds sides opens addition z) slots id me place (λ n. either (eqb n first) new n)
-      (λ n m'. ((m'.1 ≡ []) × Exchanged (chain me.0.known.walk me.0.known.own guard first new) first new n place me.0 m'.0) × IsPassOf z m'.0.known)
-  detaches_on alike chain may_detach shows kept guard first new at side lone real is may four names unused = telling sides opens addition z slots id me place
-      (λ n. either (eqb n first) new n)
-      (λ n m'. (m'.1 ≡ []) × Exchanged (chain me.0.known.walk me.0.known.own guard first new) first new n place me.0 m'.0)
-      (detaches_chain sides opens addition alike chain may_detach shows kept z slots id place guard first new me lone
-      (source_of sides opens addition z slots id place me at side real is)
+      (λ n m'. ((m'.1 ≡ []) × Exchanged (chain me.0.known.walk me.0.known.own guard first new) first new n place
+      (learning_at frozen at side n me.0.known) me.0 m'.0
+      × (n ≡ first → IsChainTo sides guard (target first) (target new) (chain me.0.known.walk me.0.known.own guard first new)))
+      × IsPassOf z m'.0.known)
+  unfolding source_of
+  detaches_on alike frozen freezes chain may_detach orders shows kept guard first new
+      (Head h) side lone real is may four names unused =
+      telling sides opens addition z slots id me place (λ n. either (eqb n first) new n)
+      (λ n m'. (m'.1 ≡ []) × Exchanged (chain me.0.known.walk me.0.known.own guard first new) first new n place
+      me.0.known me.0 m'.0
+      × (n ≡ first → IsChainTo sides guard (target first) (target new) (chain me.0.known.walk me.0.known.own guard first new)))
+      (detaches_chain sides opens addition alike frozen freezes chain may_detach orders shows kept z slots id
+      place guard first new me lone
+      (source_of sides opens addition z slots id place me (Head h) side real is)
       (subst (λ (k : ℕ). may_detach z me.0.known.walk me.0.known.own k first new) (sym is) may) four names unused)
-      (λ n m t. exchanged_alone (chain me.0.known.walk me.0.known.own guard first new) first new n place me.0 m t.0 t.1)
+      (λ n m t. exchanged_alone (chain me.0.known.walk me.0.known.own guard first new) first new n place
+      me.0.known me.0 m t.0 t.1)
+  detaches_on alike frozen freezes chain may_detach orders shows kept guard first new
+      (Walk i) side lone real is may four names unused =
+      telling sides opens addition z slots id me place (λ n. either (eqb n first) new n)
+      (λ n m'. (m'.1 ≡ []) × Exchanged (chain me.0.known.walk me.0.known.own guard first new) first new n place
+      (learning_at frozen (Walk i) side n me.0.known) me.0 m'.0
+      × (n ≡ first → IsChainTo sides guard (target first) (target new) (chain me.0.known.walk me.0.known.own guard first new)))
+      (detaches_chain sides opens addition alike frozen freezes chain may_detach orders shows kept z slots id
+      place guard first new me lone
+      (source_of sides opens addition z slots id place me (Walk i) side real is)
+      (subst (λ (k : ℕ). may_detach z me.0.known.walk me.0.known.own k first new) (sym is) may) four names unused)
+      (λ n m t. exchanged_alone (chain me.0.known.walk me.0.known.own guard first new) first new n place
+      (learning_at frozen (Walk i) side n me.0.known) me.0 m t.0 t.1)
 
   pub invalidates_on : KeptInvalid sides addition → (k n side : ℕ) → IsAlone me → k < length me.0.known.chains
       → IsIn n (chain_at me.0.known k).records → side < sides → place ≡ cell_place z n (2 + side)
@@ -345,13 +372,14 @@ module _ {E A W : Type 0} where
         chained = λ d i. k.chained d (in_rest (known s).chains d (subst (λ (l : List Chain). IsIn d l) (ap (λ q. q.chains) is) i));
       }
 
-  -- One more chain is in hand.
+  -- One more chain is in hand, and the shape's part may be another.
   pub keeping_taken : (sentinels sides : ℕ) (s s' : Seat Unit (SeatView E A W)) (z : Sizes) (number share : ℕ) (walk : List ℕ) (p p' : Purse)
-      (c : Chain) (h : InHand)
+      (c : Chain) (h : InHand) (own : W)
       → Keeping sentinels sides s number share walk p → IsAlone s'.me → IsPassOf z (known s') → in_hand_of c ≡ h
       → IsChained sides (first_of 0 c.records) c → length (known s).chains < 4
-      → TookInHand h p p' → known s' ≡ detaching c (known s) → Keeping sentinels sides s' number share walk p'
-  keeping_taken sentinels sides s s' z number share walk p p' c h k lone pass kept chained few took is =
+      → TookInHand h p p' → known s' ≡ record (detaching c (known s)) { own = own }
+      → Keeping sentinels sides s' number share walk p'
+  keeping_taken sentinels sides s s' z number share walk p p' c h own k lone pass kept chained few took is =
       keeping_listed sentinels sides s s' z number share walk p p' k lone pass
       record { number = ap (λ q. q.number) is; sizes = ap (λ q. q.sizes) is; owned = ap (λ q. q.owned) is; walk = ap (λ q. q.walk) is } took.free took.taken
       record { retired_are = let e = ap (λ v. vec_capacity v) took.retired_are in omega (arith, e); chains = took.room }
@@ -376,18 +404,24 @@ module _ {E A W : Type 0} where
 
   -- It is where the link was as it is expected.
   pub keeping_exchanged : (sentinels sides : ℕ) (s s' : Seat Unit (SeatView E A W)) (z : Sizes) (number share : ℕ) (walk : List ℕ) (p p' : Purse)
-      (c : Chain) (h : InHand) (first new n place : ℕ)
+      (c : Chain) (h : InHand) (frozen : ℕ → Bool) (at : Place) (side : Side) (first new n place : ℕ)
       → Keeping sentinels sides s number share walk p → s'.me.1 ≡ [] → IsPassOf z (known s') → in_hand_of c ≡ h
       → IsChained sides (first_of 0 c.records) c → length (known s).chains < 4
-      → MayTake (n ≡ first) h p p' → Exchanged c first new n place s.me.0 s'.me.0 → Keeping sentinels sides s' number share walk p'
-  keeping_exchanged sentinels sides s s' z number share walk p p' c h first new n place k none pass kept chained few took x = dite (ℕ_discrete n first)
-      (λ e. keeping_taken sentinels sides s s' z number share walk p p' c h k (made_alone s'.me none (x.same e)) pass kept chained few (took.taken e)
-      (made_known s'.me (x.same e)))
+      → MayTake (n ≡ first) h p p' → Exchanged c first new n place (learning_at frozen at side n (known s)) s.me.0 s'.me.0
+      → Keeping sentinels sides s' number share walk p'
+  keeping_exchanged sentinels sides s s' z number share walk p p' c h frozen at side first new n place k none pass kept chained few took x =
+      dite (ℕ_discrete n first)
+      (λ e. keeping_taken sentinels sides s s' z number share walk p p' c h (known s).own k
+      (made_alone s'.me none (x.same e)) pass kept chained
+      few (took.taken e) (made_known s'.me (x.same e)))
       (λ ne. subst (λ (p : Purse). Keeping sentinels sides s' number share walk p) (sym (took.kept ne))
-      (keeping_idle sentinels sides s s' z number share walk p k (made_alone s'.me none (x.other ne)) pass (made_known s'.me (x.other ne))))
+      (keeping_loaded sentinels sides s s' z number share walk p frozen at side n k (made_alone s'.me none (x.other ne)) pass
+      (made_known s'.me (x.other ne))))
 
-  pub same_exchanged : (s s' : Seat Unit (SeatView E A W)) (c : Chain) (first new n place : ℕ) → Exchanged c first new n place s.me.0 s'.me.0
-      → s'.table_id ≡ s.table_id → IsSame s s'
-  same_exchanged s s' c first new n place x table = dite (ℕ_discrete n first)
+  pub same_exchanged : (s s' : Seat Unit (SeatView E A W)) (c : Chain) (frozen : ℕ → Bool) (at : Place)
+      (side : Side) (first new n place : ℕ)
+      → Exchanged c first new n place (learning_at frozen at side n (known s)) s.me.0 s'.me.0 → s'.table_id ≡ s.table_id
+      → IsSame s s'
+  same_exchanged s s' c frozen at side first new n place x table = dite (ℕ_discrete n first)
       (λ e. same_known s s' (detaching c (known s)) (made_known s'.me (x.same e)) refl refl table)
-      (λ ne. same_known s s' (known s) (made_known s'.me (x.other ne)) refl refl table)
+      (λ ne. same_loaded s s' frozen at side n (made_known s'.me (x.other ne)) table)

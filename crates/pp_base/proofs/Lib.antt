@@ -2,10 +2,13 @@ pub mod Numbered
 pub mod Telling
 pub mod Named
 pub mod Steady
+pub mod Learning
+pub mod Staying
 pub mod Moves
 pub mod Owning
 pub mod Chaining
 pub mod Scanned
+pub mod Shelving
 pub mod Seated
 pub mod Parted
 pub mod Reclaiming

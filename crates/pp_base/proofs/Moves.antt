@@ -63,22 +63,35 @@ module _ {E A W : Type 0} (sides : ℕ) (opens : Sizes → List ℕ) (addition :
       (loads_held sides opens addition alike frozen freezes z slots id place i (side_number side) me lone low.0 low.1 low.2 is)
       (λ _ m t. made_alone m t.0 t.1.made)
 
-  pub source_of : (at : Place) (side : Side) → IsReadable sides z me.0.known at side → place ≡ source_place z me.0.known at side
+  unfoldable pub source_of : (at : Place) (side : Side) → IsReadable sides z me.0.known at side
+      → place ≡ source_place z me.0.known at side
       → IsSource sides z me.0.known place
   source_of (Head h) side low is = inl (h, (low, is))
   source_of (Walk i) side low is = inr (i, (side_number side, (low.0, low.1, low.2, is)))
 
-  pub confirms_on : KeptAlike sides addition → (i first : ℕ) (at : Place) (side : Side) → IsAlone me → i < 5
-      → (slot me.0.known i).held ≡ false → (slot me.0.known i).named ≡ target first
+  pub confirms_on : KeptAlike sides addition → (frozen : ℕ → Bool) → Freezes frozen → (i first : ℕ) (at : Place) (side : Side)
+      → IsAlone me
+      → i < 5 → (slot me.0.known i).held ≡ false → (slot me.0.known i).named ≡ target first
       → invalid_bit first ≡ 0 → target first ≢ 0 → IsReadable sides z me.0.known at side → place ≡ source_place z me.0.known at side
-      → Allows (Holds sides opens addition z) slots id me place (λ n. n) (λ n m'. ((m'.1 ≡ []) × Confirmed i first n place me.0 m'.0)
+      → Allows (Holds sides opens addition z) slots id me place (λ n. n)
+      (λ n m'. ((m'.1 ≡ []) × Confirmed i first n place (learning_at frozen at side n me.0.known) me.0 m'.0)
       × IsPassOf z m'.0.known)
-  confirms_on alike i first at side lone lt free named valid real low is = telling sides opens addition z slots id me place (λ n. n)
-      (λ n m'. (m'.1 ≡ []) × Confirmed i first n place me.0 m'.0)
-      (confirms sides opens addition alike z slots id place i first me lone lt free named valid real (source_of at side low is))
-      (λ n m t. confirmed_alone i first n place me.0 m t.0 t.1)
+  unfolding source_of
+  confirms_on alike frozen freezes i first (Head h) side lone lt free named valid real low is =
+      telling sides opens addition z slots id me place
+      (λ n. n) (λ n m'. (m'.1 ≡ []) × Confirmed i first n place me.0.known me.0 m'.0)
+      (confirms sides opens addition alike frozen freezes z slots id place i first me lone lt free named valid real
+      (source_of (Head h) side low is))
+      (λ n m t. confirmed_alone i first n place me.0.known me.0 m t.0 t.1)
+  confirms_on alike frozen freezes i first (Walk j) side lone lt free named valid real low is =
+      telling sides opens addition z slots id me place
+      (λ n. n) (λ n m'. (m'.1 ≡ []) × Confirmed i first n place (learning_at frozen (Walk j) side n me.0.known) me.0 m'.0)
+      (confirms sides opens addition alike frozen freezes z slots id place i first me lone lt free named valid real
+      (source_of (Walk j) side low is))
+      (λ n m t. confirmed_alone i first n place (learning_at frozen (Walk j) side n me.0.known) me.0 m t.0 t.1)
 
-  pub writes_on : KeptAlike sides addition → (k f x : ℕ) (d : PrivateRecord) → IsAlone me → get_elem? me.0.known.owned k ≡ some d → f < 4
+  pub writes_on : KeptAlike sides addition → (k f x : ℕ) (d : PrivateRecord) → IsAlone me
+      → get_elem? me.0.known.owned k ≡ some d → f < 5
       → place ≡ cell_place z d.number f
       → Allows (Holds sides opens addition z) slots id me place (λ _. x)
       (λ _ m'. ((m'.1 ≡ []) × MadeQuietStep write_step place x x (with_private k (wrote f x d) me.0.known) me.0 m'.0) × IsPassOf z m'.0.known)

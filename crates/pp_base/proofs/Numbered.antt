@@ -1,11 +1,11 @@
 -- A pass has no more records of its own than the pool has: each has one state, and stands in one list of the pass, once.
-use Rattle.std.proofs.Common.{◌≡◌, ◌≢◌, ℕ, zero, suc, ◌+◌, ◌<◌, ◌≤◌, List, [], ◌∷◌, ◌++◌, map, length, refl, sym, ap, ◌∙◌, subst, ⊎_elim}
-use Rattle.std.proofs.Common.{arith, eqb, eq-eqb, ne_eqb, Bool, true, false, cond}
+use Rattle.std.proofs.Common.{◌≡◌, ◌≢◌, ℕ, zero, suc, ◌<◌, ◌≤◌, List, [], ◌∷◌, ◌++◌, map, length, refl, sym, ap, ◌∙◌, subst, ⊎_elim}
+use Rattle.std.proofs.Common.{arith, eq-eqb, ne_eqb, Bool, cond}
 use Rattle.std.proofs.Math.Decide.{ℕ_discrete}
 use mathlib.Core.Logic.{dite}
 use Rattle.pp_link.specs.declared.layout.Sizes.{Sizes}
 use Rattle.pp_link.specs.Places.{IsNumber}
-use Rattle.pp_rule.specs.Lists.{IsIn, OnceBy, Once, without, times}
+use Rattle.pp_rule.specs.Lists.{IsIn, OnceBy, Once, without}
 use Rattle.pp_rule.specs.declared.views.Chain.{Chain}
 use Rattle.pp_rule.specs.declared.views.PrivateRecord.{PrivateRecord}
 use Rattle.pp_rule.specs.States.{RecordState, attached, in_hand, retired, owned, shelved, PoolState}
@@ -46,57 +46,6 @@ bounded (suc n) (x ∷ xs) o range = let less = length_without (suc n) (x ∷ xs
       let high : m ≤ suc n = low.1 in
           let other : m ≢ suc n = was.1 in omega arith,
     )) in omega (arith, less, rest)
-
--- the list without the first x in it
-abbrev drop_one : ℕ → List ℕ → List ℕ
-drop_one x [] = []
-drop_one x (y ∷ ys) = cond (eqb y x) ys (y ∷ drop_one x ys)
-
-drop_length : (x : ℕ) (ys : List ℕ) → 1 ≤ times x ys → length ys ≡ suc (length (drop_one x ys))
-unfolding times
-drop_length x [] some = absurd (omega arith)
-drop_length x (y ∷ ys) some = by (drop_length x ys) (eqb y x) some
-  where
-    by : (1 ≤ times x ys → length ys ≡ suc (length (drop_one x ys))) → (b : Bool) → 1 ≤ cond b (suc (times x ys)) (times x ys)
-        → suc (length ys) ≡ suc (length (cond b ys (y ∷ drop_one x ys)))
-    by rest true some = refl
-    by rest false some = ap suc (rest some)
-
--- any other number stands in it as often as before
-drop_times : (x n : ℕ) (ys : List ℕ) → 1 ≤ times x ys → times n ys ≡ times n (drop_one x ys) + cond (eqb x n) 1 0
-unfolding times
-drop_times x n [] some = absurd (omega arith)
-drop_times x n (y ∷ ys) some = dite (ℕ_discrete y x)
-    (λ same. subst (λ (b : Bool). cond (eqb y n) (suc (times n ys)) (times n ys) ≡ times n (cond b ys (y ∷ drop_one x ys)) + cond (eqb x n) 1 0)
-    (sym (eq-eqb y x same)) (subst (λ (k : ℕ). cond (eqb k n) (suc (times n ys)) (times n ys) ≡ times n ys + cond (eqb x n) 1 0) (sym same)
-    (here (eqb x n))))
-    (λ other. subst (λ (b : Bool). cond (eqb y n) (suc (times n ys)) (times n ys) ≡ times n (cond b ys (y ∷ drop_one x ys)) + cond (eqb x n) 1 0)
-    (sym (ne_eqb y x other)) (later (drop_times x n ys (subst (λ (b : Bool). 1 ≤ cond b (suc (times x ys)) (times x ys)) (ne_eqb y x other) some))
-    (eqb y n)))
-  where
-    here : (b : Bool) → cond b (suc (times n ys)) (times n ys) ≡ times n ys + cond b 1 0
-    here true = omega arith
-    here false = omega arith
-
-    later : times n ys ≡ times n (drop_one x ys) + cond (eqb x n) 1 0 → (b : Bool)
-        → cond b (suc (times n ys)) (times n ys) ≡ cond b (suc (times n (drop_one x ys))) (times n (drop_one x ys)) + cond (eqb x n) 1 0
-    later rest true = omega (arith, rest)
-    later rest false = rest
-
--- a list that has no number more often than another one isn't longer
-pub times_length : (xs ys : List ℕ) → ((n : ℕ) → times n xs ≤ times n ys) → length xs ≤ length ys
-unfolding times
-times_length [] ys less = omega arith
-times_length (x ∷ xs) ys less =
-    let some : 1 ≤ times x ys = let here = less x in let one : times x (x ∷ xs) ≡ suc (times x xs) =
-    ap (λ (b : Bool). cond b (suc (times x xs)) (times x xs)) (eq-eqb x x refl) in omega (arith, here, one) in
-    let rest = times_length xs (drop_one x ys) (λ n. let a = less n in let b = drop_times x n ys some in by n (eqb x n) a b) in
-    let whole = drop_length x ys some in omega (arith, rest, whole)
-  where
-    by : (n : ℕ) (b : Bool) → cond b (suc (times n xs)) (times n xs) ≤ times n ys → times n ys ≡ times n (drop_one x ys) + cond b 1 0
-        → times n xs ≤ times n (drop_one x ys)
-    by n true a e = omega (arith, a, e)
-    by n false a e = omega (arith, a, e)
 
 in_map : (ds : List PrivateRecord) (n : ℕ) → IsIn n (map number_of ds) → (d : PrivateRecord) × (IsIn d ds × (d.number ≡ n))
 in_map [] n i = absurd (in_nil n i)

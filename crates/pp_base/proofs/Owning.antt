@@ -8,7 +8,7 @@ use Rattle.atomic_table.specs.Table.{Me, Allows}
 use Rattle.atomic_table.specs.declared.shared.Seat.{Seat}
 use Rattle.pp_link.specs.declared.layout.Sizes.{Sizes}
 use Rattle.pp_link.specs.declared.layout.Field.{Field}
-use Rattle.pp_link.specs.declared.layout.Field.TheVariants.{Key, Value, Left, Right}
+use Rattle.pp_link.specs.declared.layout.Field.TheVariants.{Key, Value, Left, Right, High}
 use Rattle.pp_link.specs.Places.{IsNumber, total, cell_place, field_number}
 use Rattle.pp_rule.specs.Lists.{times}
 use Rattle.pp_rule.specs.declared.views.PrivateRecord.{PrivateRecord}
@@ -46,18 +46,19 @@ pub owned_number : {W : Type 0} (q : PassState W) (z : Sizes) (n : ℕ) → IsPa
 owned_number q z n pass sizes owned = let o = owned_at n q.owned owned in
     subst (λ (k : ℕ). IsNumber z k) o.number_is (subst (λ (y : Sizes). IsNumber y o.was.number) sizes (pass.owned o.was (o.index, o.at)))
 
-pub cell_low : (z : Sizes) (n f place : ℕ) → IsNumber z n → f < 4 → place ≡ cell_place z n f → place < total z
+pub cell_low : (z : Sizes) (n f place : ℕ) → IsNumber z n → f < 5 → place ≡ cell_place z n f → place < total z
 cell_low z n f place number four is = omega arith
 
-pub field_low : (f : Field) → field_number f < 4
+pub field_low : (f : Field) → field_number f < 5
 field_low Key = omega arith
 field_low Value = omega arith
 field_low Left = omega arith
 field_low Right = omega arith
+field_low High = omega arith
 
 module _ {E A W : Type 0} (sides : ℕ) (opens : Sizes → List ℕ) (addition : Sizes → List ℕ → PoolState E A W
     → Type 0) (z : Sizes) (slots id place : ℕ) (me : Me Unit (SeatView E A W)) where
-  pub writes_owned : KeptAlike sides addition → (n f x : ℕ) → IsAlone me → IsOwned me.0.known n → f < 4 → place ≡ cell_place z n f
+  pub writes_owned : KeptAlike sides addition → (n f x : ℕ) → IsAlone me → IsOwned me.0.known n → f < 5 → place ≡ cell_place z n f
       → Allows (Holds sides opens addition z) slots id me place (λ _. x)
       (λ _ m'. ((m'.1 ≡ []) × WroteField n f x place me.0 m'.0) × IsPassOf z m'.0.known)
   writes_owned alike n f x lone owned four is = let o = owned_at n me.0.known.owned owned in

@@ -1,5 +1,5 @@
 -- The purse of a pass agrees with its seat after its reclaim pass has freed what no hazard word named.
-use Rattle.std.proofs.Common.{◌≡◌, ℕ, suc, ◌+◌, ◌≤◌, Bool, true, false, cond, eqb, List, [], ◌∷◌, ◌++◌, map, length, sym, ap, ◌∙◌, subst, arith}
+use Rattle.std.proofs.Common.{◌≡◌, ℕ, ◌+◌, ◌≤◌, List, [], ◌∷◌, ◌++◌, map, length, sym, ap, ◌∙◌, subst, arith}
 use Rattle.std.specs.List.Sorted.{IsPermutation}
 use Rattle.std.proofs.lemmas.List.{map-append, length-append, length-map, take_all}
 use Rattle.atomic_table.specs.declared.shared.Seat.{Seat}
@@ -14,21 +14,10 @@ use Rattle.pp_base.specs.declared.purse.InHand.{InHand}
 use Rattle.pp_base.specs.Scans.{is_named, chosen, rejected}
 use Rattle.pp_base.proofs.Parted.{rejected_words, chosen_without}
 use Rattle.pp_base.specs.Passes.{known, named_of, in_hand_of, members_of, owned_numbers, numbers_of, IsPassOf, HasRoom, Keeping}
-use Rattle.pp_base.proofs.Numbered.{times_length}
+use Rattle.pp_rule.proofs.Times.{times_append, times_length}
 use Rattle.std.specs.Prelude.{Vec, vec_capacity}
 use Rattle.pp_rule.specs.declared.views.Chain.{Chain}
 use Rattle.pp_rule.specs.Lists.{IsIn, times, without, without_all}
-
--- how often a number stands in two lists
-pub times_append : (n : ℕ) (xs ys : List ℕ) → times n (xs ++ ys) ≡ times n xs + times n ys
-unfolding times
-times_append n [] ys = omega arith
-times_append n (x ∷ xs) ys = by (times_append n xs ys) (eqb x n)
-  where
-    by : times n (xs ++ ys) ≡ times n xs + times n ys → (b : Bool)
-        → cond b (suc (times n (xs ++ ys))) (times n (xs ++ ys)) ≡ cond b (suc (times n xs)) (times n xs) + times n ys
-    by rest true = omega (arith, rest)
-    by rest false = rest
 
 -- what the words and the last one leave of a list
 left_over : (words all ns left : List ℕ) (found : ℕ) → IsPermutation (words ++ found ∷ []) all → left ≡ without_all words ns

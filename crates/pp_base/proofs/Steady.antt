@@ -25,13 +25,14 @@ use Rattle.pp_base.proofs.Telling.{made_alone, made_known}
 use Rattle.pp_base.specs.Passes.{known, named_of, in_hand_of, IsPassOf, IsSame, HasRoom, Keeping}
 
 -- the names where one walk word has another slot
-named_set : (ws : List WalkSlot) (i : ℕ) (w : WalkSlot) → map named_of (set ws i w) ≡ set (map named_of ws) i w.named
+pub named_set : (ws : List WalkSlot) (i : ℕ) (w : WalkSlot) → map named_of (set ws i w) ≡ set (map named_of ws) i w.named
 named_set [] i w = refl
 named_set (v ∷ ws) zero w = refl
 named_set (v ∷ ws) (suc i) w = ap (λ (ns : List ℕ). v.named ∷ ns) (named_set ws i w)
 
 -- the names where it has a slot that names the same record
-named_same : (ws : List WalkSlot) (i : ℕ) (w : WalkSlot) → w.named ≡ (get_or ws i blank).named → map named_of (set ws i w) ≡ map named_of ws
+pub named_same : (ws : List WalkSlot) (i : ℕ) (w : WalkSlot) → w.named ≡ (get_or ws i blank).named
+    → map named_of (set ws i w) ≡ map named_of ws
 named_same [] i w same = refl
 named_same (v ∷ ws) zero w same = ap (λ (n : ℕ). n ∷ map named_of ws) same
 named_same (v ∷ ws) (suc i) w same = ap (λ (ns : List ℕ). v.named ∷ ns) (named_same ws i w same)
@@ -139,14 +140,18 @@ module _ {E A W : Type 0} where
 
   -- the pass has loaded a link again, and perhaps holds the record that it leads to
   pub keeping_confirmed : (sentinels sides : ℕ) (s s' : Seat Unit (SeatView E A W)) (z : Sizes) (number share : ℕ) (walk : List ℕ) (p : Purse)
-      (i first n place : ℕ)
+      (frozen : ℕ → Bool) (at : Place) (side : Side) (i first n place : ℕ)
       → Keeping sentinels sides s number share walk p → s'.me.1 ≡ [] → IsPassOf z (known s') → (slot (known s) i).named ≡ target first
-      → Confirmed i first n place s.me.0 s'.me.0 → Keeping sentinels sides s' number share walk p
-  keeping_confirmed sentinels sides s s' z number share walk p i first n place k none pass named c = dite (ℕ_discrete n first)
+      → Confirmed i first n place (learning_at frozen at side n (known s)) s.me.0 s'.me.0
+      → Keeping sentinels sides s' number share walk p
+  keeping_confirmed sentinels sides s s' z number share walk p frozen at side i first n place k none pass named c =
+      dite (ℕ_discrete n first)
       (λ e. let held = c.same e in keeping_learnt sentinels sides s s' z number share walk p i (holding (target first) held.0 held.1.0) k
       (made_alone s'.me none held.1.1) pass (sym named)
       (made_known s'.me held.1.1))
-      (λ ne. keeping_idle sentinels sides s s' z number share walk p k (made_alone s'.me none (c.other ne)) pass (made_known s'.me (c.other ne)))
+      (λ ne. keeping_loaded sentinels sides s s' z number share walk p frozen at side n k
+      (made_alone s'.me none (c.other ne)) pass
+      (made_known s'.me (c.other ne)))
 
   -- it is the same pass
   pub same_known : (s s' : Seat Unit (SeatView E A W)) (q : PassState W) → known s' ≡ q → q.number ≡ (known s).number
@@ -167,12 +172,12 @@ module _ {E A W : Type 0} where
       by true e = same_known s s' (with_walk i (record (slot (known s) i) { learnt = (side_number side, n) ∷ (slot (known s) i).learnt })
           (known s)) e refl refl table
 
-  pub same_confirmed : (s s' : Seat Unit (SeatView E A W)) (i first n place : ℕ) → Confirmed i first n place s.me.0 s'.me.0
-      → s'.table_id ≡ s.table_id → IsSame s s'
-  same_confirmed s s' i first n place c table = dite (ℕ_discrete n first)
+  pub same_confirmed : (s s' : Seat Unit (SeatView E A W)) (frozen : ℕ → Bool) (at : Place) (side : Side) (i first n place : ℕ)
+      → Confirmed i first n place (learning_at frozen at side n (known s)) s.me.0 s'.me.0 → s'.table_id ≡ s.table_id → IsSame s s'
+  same_confirmed s s' frozen at side i first n place c table = dite (ℕ_discrete n first)
       (λ e. let held = c.same e in same_known s s' (with_walk i (holding (target first) held.0 held.1.0) (known s))
       (made_known s'.me held.1.1) refl refl table)
-      (λ ne. same_known s s' (known s) (made_known s'.me (c.other ne)) refl refl table)
+      (λ ne. same_loaded s s' frozen at side n (made_known s'.me (c.other ne)) table)
 
 -- the number in a walk word
 pub named_at : (ws : List WalkSlot) (walk : List ℕ) (i : ℕ) → map named_of ws ≡ walk → get_or walk i 0 ≡ (get_or ws i blank).named

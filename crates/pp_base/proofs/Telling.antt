@@ -12,10 +12,12 @@ use Rattle.pp_rule.specs.declared.views.SeatView.{SeatView}
 use Rattle.pp_rule.specs.Views.{slot, all_of}
 use Rattle.pp_rule.specs.States.{PoolState}
 use Rattle.pp_rule.specs.Rule.{number_of, Base}
+use Rattle.pp_rule.specs.Alone.{IsRun, HasOwnChanges}
 use Rattle.pp_rule.specs.Ties.{Holds}
 use Rattle.pp_rule.specs.Steps.{IsAlone, MadeStep, Confirmed}
 use Rattle.pp_rule.proofs.Put.{at_below}
 use Rattle.pp_rule.proofs.Made.{alone_after, known_after}
+use Rattle.pp_rule.proofs.Alone.{tells_run}
 use Rattle.pp_base.specs.Passes.{numbers_of, IsPassOf}
 use Rattle.pp_base.proofs.Numbered.{numbers_fit}
 
@@ -29,6 +31,18 @@ module _ {E A W : Type 0} where
   keyed sides opens addition z key slots id me place change then is none a = subst (λ (k : Sizes). Allows
       (Holds sides opens addition k) slots id me place change then) (sym is)
       (subst (λ (n : ℕ). Allows (Holds sides opens addition z) n id me place change then) (sym none) a)
+
+  -- It tells that the order that the seat has then seen is a run of the pool.
+  pub keyed_run : (sides : ℕ) (opens : Sizes → List ℕ) (addition : Sizes → List ℕ → PoolState E A W
+      → Type 0) (caller : E → ℕ) → HasOwnChanges addition caller → (z key : Sizes) (slots id : ℕ) (me : Me Unit (SeatView E A W))
+      (place : ℕ) (change : ℕ → ℕ) (then : ℕ → Me Unit (SeatView E A W) → Type 0) → key ≡ z → slots ≡ 0
+      → Allows (Holds sides opens addition z) 0 id me place change then
+      → Allows (Holds sides opens addition key) slots id me place change
+      (λ n m. then n m × (m.0.standing ≡ true → IsRun caller (opens m.0.known.sizes) m.0.known.sizes m.0.order))
+  keyed_run sides opens addition caller owns z key slots id me place change then is none a =
+      keyed sides opens addition z key slots id me place change
+      (λ n m. then n m × (m.0.standing ≡ true → IsRun caller (opens m.0.known.sizes) m.0.known.sizes m.0.order)) is none
+      (tells_run sides opens addition z caller owns 0 id me place change then a)
 
   -- what is known of a pass names records and words that there are
   pub pass_of : (sides : ℕ) (z : Sizes) (words : List ℕ) (g : PoolState E A W) (q : PassState W) → Base sides z words g
@@ -73,7 +87,8 @@ module _ {E A W : Type 0} where
     pub made_known : MadeStep kind place word left changes placed q v m.0 → m.0.known ≡ q
     made_known made = known_after kind place word left changes placed q v m.0 made
 
-  pub confirmed_alone : (i first n place : ℕ) (v : SeatView E A W) (m : Me Unit (SeatView E A W)) → m.1 ≡ []
-      → Confirmed i first n place v m.0 → IsAlone m
-  confirmed_alone i first n place v m none c = dite (ℕ_discrete n first) (λ e. made_alone m none (c.same e).1.1) (λ ne. made_alone m none
+  pub confirmed_alone : (i first n place : ℕ) (q : PassState W) (v : SeatView E A W) (m : Me Unit (SeatView E A W)) → m.1 ≡ []
+      → Confirmed i first n place q v m.0 → IsAlone m
+  confirmed_alone i first n place q v m none c =
+      dite (ℕ_discrete n first) (λ e. made_alone m none (c.same e).1.1) (λ ne. made_alone m none
       (c.other ne))

@@ -1,7 +1,8 @@
 -- The steps of a pass at its frontier words and at the chains that it detached, said of its seat and of its purse.
-use Rattle.std.specs.Prelude.{◌≡◌, ℕ, ◌+◌, ◌≤◌, List, [], ◌∷◌, ◌++◌, length, drop, slice_set, slice_index_or, vec_capacity}
+use Rattle.std.specs.Prelude.{◌≡◌, ℕ, ◌+◌, ◌≤◌, Bool, List, [], ◌∷◌, ◌++◌, length, drop, slice_set, slice_index_or, vec_capacity}
 use Rattle.atomic_table.specs.declared.shared.Seat.{Seat}
 use Rattle.pp_link.specs.declared.layout.Sizes.{Sizes}
+use Rattle.pp_link.specs.Links.{target}
 use Rattle.pp_link.specs.Places.{frontier_place, cell_place}
 use Rattle.pp_rule.specs.Lists.{rest_of}
 use Rattle.pp_rule.specs.declared.views.WalkSlot.{WalkSlot}
@@ -12,10 +13,11 @@ use Rattle.pp_rule.specs.Orders.{guard_step, unguard_step, retire_step}
 use Rattle.pp_rule.specs.Steps.{MadeQuietStep, with_frontier, Invalidated, retiring}
 use Rattle.pp_base.specs.declared.purse.Purse.{Purse}
 use Rattle.pp_rule.specs.Detach.{Exchanged}
+use Rattle.pp_rule.specs.Paths.{IsChainTo}
 use Rattle.pp_base.specs.declared.purse.InHand.{InHand}
 use Rattle.pp_base.specs.declared.source.Side.{Side}
 use Rattle.pp_base.specs.declared.source.Place.{Place}
-use Rattle.pp_base.specs.Sources.{side_number, source_place}
+use Rattle.pp_base.specs.Sources.{side_number, source_place, learning_at}
 use Rattle.pp_base.specs.Passes.{known, view}
 
 -- the frontier word j of the pass has the number n
@@ -83,10 +85,16 @@ pub record MayTake (hit : Type 0) (h : InHand) (p p' : Purse) : Type 0 where
 
 module _ {E A W : Type 0} where
   -- the chain that the shape says is detached at a source, where its link was as it is expected
-  abbrev pub DetachedAt : Sizes → (List WalkSlot → W → ℕ → ℕ → ℕ → Chain) → Place → Side → ℕ → ℕ → ℕ → ℕ → Seat Unit (SeatView E A W)
-      → Seat Unit (SeatView E A W) → Type 0
-  DetachedAt z chain at side guard first new found s s' = Exchanged (chain (known s).walk (known s).own guard first new) first new found
-      (source_place z (known s) at side) (view s) (view s')
+  abbrev pub DetachedAt : Sizes → (ℕ → Bool) → (List WalkSlot → W → ℕ → ℕ → ℕ → Chain) → Place → Side → ℕ → ℕ → ℕ → ℕ
+      → Seat Unit (SeatView E A W) → Seat Unit (SeatView E A W) → Type 0
+  DetachedAt z frozen chain at side guard first new found s s' =
+      Exchanged (chain (known s).walk (known s).own guard first new) first new found
+      (source_place z (known s) at side) (learning_at frozen at side found (known s)) (view s) (view s')
+
+  -- A chain that was detached so stands in the order in which its links lead.
+  abbrev pub OrderedAt : ℕ → (List WalkSlot → W → ℕ → ℕ → ℕ → Chain) → ℕ → ℕ → ℕ → ℕ → Seat Unit (SeatView E A W) → Type 0
+  OrderedAt sides chain guard first new found s = found ≡ first
+      → IsChainTo sides guard (target first) (target new) (chain (known s).walk (known s).own guard first new)
 
   -- INVALID is set in a link of the record n of the chain with the index k
   abbrev pub InvalidatedAt : Sizes → ℕ → ℕ → Side → ℕ → Seat Unit (SeatView E A W) → Seat Unit (SeatView E A W) → Type 0

@@ -4,8 +4,8 @@ pub mod Private
 pub mod Made
 pub mod Named
 pub mod Row
-pub mod RowOpens
 pub mod RowLaws
 pub mod Chains
 pub mod Scans
+pub mod Shelves
 pub mod Seats

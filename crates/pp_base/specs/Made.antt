@@ -1,5 +1,5 @@
 -- The steps of a pass, said of its seat before and after them.
-use Rattle.std.specs.Prelude.{ℕ, Bool, List}
+use Rattle.std.specs.Prelude.{◌≡◌, ℕ, Bool, true, List}
 use Rattle.atomic_table.specs.Table.{Me, Allows}
 use Rattle.atomic_table.specs.declared.shared.Seat.{Seat}
 use Rattle.pp_link.specs.declared.layout.Sizes.{Sizes}
@@ -12,6 +12,7 @@ use Rattle.pp_rule.specs.States.{PoolState}
 use Rattle.pp_rule.specs.Ties.{Holds}
 use Rattle.pp_rule.specs.Steps.{MadeQuietStep, with_walk, clearing, LoadedLink, ReadField, Confirmed}
 use Rattle.pp_rule.specs.Opening.{opening_words}
+use Rattle.pp_rule.specs.Alone.{IsRun}
 use Rattle.pp_base.specs.declared.source.Side.{Side}
 use Rattle.pp_base.specs.declared.source.Place.{Place}
 use Rattle.pp_base.specs.Passes.{known, view}
@@ -24,6 +25,11 @@ module _ {E A W : Type 0} where
       → (ℕ → Me Unit (SeatView E A W) → Type 0) → Type 0
   MayStep sides sentinels head field addition z s place change then =
       Allows (Holds sides (opening_words sentinels head field) addition z) 0 s.id s.me place change then
+
+  -- The order that the seat has seen is a run of its pool from its opening words, where it stands for a pass.
+  abbrev pub HasRun : ℕ → (ℕ → ℕ) → (ℕ → ℕ → ℕ) → (E → ℕ) → SeatView E A W → Type 0
+  HasRun sentinels head field caller v = v.standing ≡ true
+      → IsRun caller (opening_words sentinels head field v.known.sizes) v.known.sizes v.order
 
   -- the number n is stored in the walk word i
   abbrev pub Announced : Sizes → ℕ → ℕ → Seat Unit (SeatView E A W) → Seat Unit (SeatView E A W) → Type 0
@@ -44,8 +50,10 @@ module _ {E A W : Type 0} where
       (view s) (view s')
 
   -- it is loaded again, for the walk word i and the first word
-  abbrev pub ConfirmedAt : Sizes → Place → Side → ℕ → ℕ → ℕ → Seat Unit (SeatView E A W) → Seat Unit (SeatView E A W) → Type 0
-  ConfirmedAt z at side i first found s s' = Confirmed i first found (source_place z (known s) at side) (view s) (view s')
+  abbrev pub ConfirmedAt : Sizes → (ℕ → Bool) → Place → Side → ℕ → ℕ → ℕ → Seat Unit (SeatView E A W)
+      → Seat Unit (SeatView E A W) → Type 0
+  ConfirmedAt z frozen at side i first found s s' = Confirmed i first found (source_place z (known s) at side)
+      (learning_at frozen at side found (known s)) (view s) (view s')
 
   -- a word is stored in a field of the record with the number n, which the pass owns
   abbrev pub WroteOwned : Sizes → ℕ → Field → ℕ → Seat Unit (SeatView E A W) → Seat Unit (SeatView E A W) → Type 0

@@ -1,11 +1,11 @@
 -- The steps that a call made, by their names.
-use Rattle.std.specs.Prelude.{◌≡◌, ◌≢◌, ℕ, List, [], ◌∷◌}
+use Rattle.std.specs.Prelude.{◌≡◌, ℕ, ◌+◌, Bool, false, nat_eq, ◌||◌, List, [], ◌∷◌}
 use Rattle.pp_model.specs.declared.steps.Step.{Step}
 use Rattle.pp_rule.specs.Orders.{load_step, announce_step, confirm_step, clear_step, guard_step, unguard_step, detach_step, missed_step}
-use Rattle.pp_rule.specs.Orders.{invalidate_step, retire_step, scan_frontier_step, scan_walk_step}
+use Rattle.pp_rule.specs.Orders.{invalidate_step, retire_step, scan_frontier_step, scan_walk_step, shelve_step, unshelve_step}
 use Rattle.pp_rule.specs.declared.views.PassState.{PassState}
 use Rattle.pp_rule.specs.declared.views.SeatView.{SeatView}
-use Rattle.pp_rule.specs.Steps.{MadeQuietStep}
+use Rattle.pp_rule.specs.Steps.{MadeStep, MadeQuietStep}
 
 -- a step by its kind, the place of its word, and the word that it found or stored
 pub record NamedStep : Type 0 where
@@ -53,17 +53,44 @@ scans_frontier place word = record { kind = scan_frontier_step; place = place; w
 abbrev pub scans_walk : ℕ → ℕ → NamedStep
 scans_walk place word = record { kind = scan_walk_step; place = place; word = word }
 
+abbrev pub shelves : ℕ → NamedStep
+shelves place = record { kind = shelve_step; place = place; word = 0 }
+
+abbrev pub unshelves : ℕ → ℕ → NamedStep
+unshelves place word = record { kind = unshelve_step; place = place; word = word }
+
+-- the steps that found these words, each at the place after the one before, from this place on
+abbrev pub in_turn : (ℕ → ℕ → NamedStep) → ℕ → List ℕ → List NamedStep
+in_turn step place [] = []
+in_turn step place (word ∷ words) = step place word ∷ in_turn step (place + 1) words
+
+-- The kinds of step after which the pass may own other records: the last load of a reclaim pass frees some, and a step at a shelf
+-- word gives one away or takes one.
+abbrev pub moves_owned : ℕ → Bool
+moves_owned kind = nat_eq kind scan_walk_step || nat_eq kind shelve_step || nat_eq kind unshelve_step
+
+-- the kinds of step that may leave another word than the one that is named
+abbrev pub changes_word : ℕ → Bool
+changes_word kind = nat_eq kind detach_step || nat_eq kind invalidate_step || nat_eq kind shelve_step || nat_eq kind unshelve_step
+
 module _ {E A W : Type 0} where
   -- the pass made this step, at which no change took effect and no call was placed
   pub record MadeOne (step : NamedStep) (before after : SeatView E A W) : Type 0 where
     pub known : PassState W
     pub left : ℕ
     pub number : known.number ≡ before.known.number
-    -- only the last load of a reclaim pass frees records
-    pub owned : step.kind ≢ scan_walk_step → known.owned ≡ before.known.owned
-    -- only an exchange and an or-step leave another word than the one that is named
-    pub leaves : step.kind ≢ detach_step → step.kind ≢ invalidate_step → left ≡ step.word
+    pub owned : moves_owned step.kind ≡ false → known.owned ≡ before.known.owned
+    pub leaves : changes_word step.kind ≡ false → left ≡ step.word
     pub made : MadeQuietStep step.kind step.place step.word left known before after
+
+  -- the pass made this step, whatever took effect or was placed at it
+  pub record Did (step : NamedStep) (before after : SeatView E A W) : Type 0 where
+    pub known : PassState W
+    pub left : ℕ
+    pub changes : List E
+    pub placed : List A
+    pub number : known.number ≡ before.known.number
+    pub made : MadeStep step.kind step.place step.word left changes placed known before after
 
   -- the pass made these steps, one after another, and no others
   abbrev pub Made : List NamedStep → SeatView E A W → SeatView E A W → Type 0

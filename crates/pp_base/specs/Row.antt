@@ -80,11 +80,8 @@ pub record MayCut (z : Sizes) (walk : List WalkSlot) (place first new : ℕ) : T
   pub second_learnt : Learnt walk 2 49
 
 -- Its contents are none, and the record 3 alone is live.
-abbrev pub row_pairs : Sizes → List ℕ → List Pair
-row_pairs z words = []
-
-abbrev pub row_alive : Sizes → List ℕ → List ℕ
-row_alive z words = 3 ∷ []
+abbrev pub RowGathered : Sizes → List ℕ → List Pair → List ℕ → Type 0
+RowGathered z words contents live = (contents ≡ []) × (live ≡ 3 ∷ [])
 
 abbrev pub row_count : ℕ → ℕ
 row_count pairs = 1

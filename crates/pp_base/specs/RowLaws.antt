@@ -25,15 +25,20 @@ use Rattle.pp_rule.specs.Rule.{Base}
 use Rattle.pp_rule.specs.Looks.{SameSeen}
 use Rattle.pp_rule.specs.Steps.{IsUnused}
 use Rattle.pp_rule.specs.Detach.{Detaches, Detached}
+use Rattle.pp_rule.specs.Closing.{Gathers}
 use Rattle.pp_rule.specs.Opening.{OpensInto}
+use Rattle.pp_rule.specs.Alone.{HasOwnChanges}
+use Rattle.pp_rule.specs.Reached.{Reached, ReachesAll}
+use Rattle.pp_rule.specs.Reached.Reached.{by_head, by_link}
+use Rattle.pp_rule.proofs.Alone.{none_logged}
 use Rattle.pp_rule.specs.Laws.{HeadsOpen, LinksOpen, Freezes, MetAtOpening, KeptAlike, KeptCleared, KeptInvalid}
-use Rattle.pp_rule.specs.Paths.{links_of, led_to, IsChained}
+use Rattle.pp_rule.specs.Paths.{links_of, led_to, IsChained, IsChainTo}
 use Rattle.pp_rule.specs.Laws.{Chained, MayDetach, KeptDetached, Closes}
 use Rattle.pp_rule.proofs.Put.{in_nil, in_cases, in_one}
 use Rattle.pp_rule.proofs.Histories.{quiet_log, quiet_placed}
 use Rattle.pp_base.specs.Row.{row_head, row_link, row_field, has_flag, IsRow, IsWhole, IsCut, row_chain, MayCut}
-use Rattle.pp_base.specs.Row.{row_pairs, row_alive, row_count, RowTells, RowTellsPass}
-use Rattle.pp_base.specs.RowOpens.{opening_head, opening_cell}
+use Rattle.pp_base.specs.Row.{RowGathered, row_count, RowTells, RowTellsPass}
+use Rattle.pp_rule.proofs.OpeningWords.{opening_head, opening_field}
 
 pub row_sided : (1 ≤ 1) × (1 ≤ 2)
 row_sided = (omega arith, omega arith)
@@ -158,6 +163,19 @@ second_link = record { number = 2; side = 0; word = 49 }
 abbrev IsLinkOf : Sizes → List ℕ → ChainLink → Type 0
 IsLinkOf z words l = IsIn l.number (1 ∷ 2 ∷ []) × (l.side < 1) × SameTarget l.word (cell_word words z l.number (2 + l.side))
 
+-- the record 3 alone
+three_alone : (z : Sizes) → 3 ≤ z.records → Gathers z (3 ∷ [])
+unfolding times
+three_alone z most = record {
+  once = λ n. one_at_most (eqb 3 n);
+  low = refl;
+  high = λ n more. ap (λ (c : Bool). cond c 1 0) (ne_eqb 3 n (omega (arith, more, most)));
+}
+  where
+    one_at_most : (c : Bool) → cond c 1 0 ≤ 1
+    one_at_most true = omega arith
+    one_at_most false = omega arith
+
 module _ {W : Type 0} where
   abbrev FirstTwo : List WalkSlot → W → ℕ → ℕ → ℕ → Chain
   FirstTwo walk own guard first new = row_chain guard
@@ -166,8 +184,9 @@ module _ {W : Type 0} where
   May z walk own place first new = MayCut z walk place first new
 
 module _ {W : Type 0} where
-  pub row_chained : Chained {W = W} 1 FirstTwo May
-  row_chained z walk own place guard first new may = record {
+  row_ordered : (z : Sizes) (walk : List WalkSlot) (own : W) (place guard first new : ℕ) → May z walk own place first new
+      → IsChainTo 1 guard (target first) (target new) (FirstTwo walk own guard first new)
+  row_ordered z walk own place guard first new may = record {
     chained = subst (λ (n : ℕ). IsChained 1 (target n) (row_chain guard)) (sym may.first_is) (first_two_chained guard);
     guard_is = refl;
     frontier_is = sym (ap target may.new_is);
@@ -200,7 +219,7 @@ module _ {E A W : Type 0} where
     no_other = λ n number is. ⊎_elim
         (λ (more : 3 < n). let free = o.others_are n number more in absurd (not_owned (g.status n) free.0 free.1 is))
         (λ (less : n ≤ 3). less) (cases_lt 3 n);
-    links = λ n some_is less linked. inl (opening_cell 3 row_head row_field z n 2 some_is less (omega arith));
+    links = λ n some_is less linked. inl (opening_field 3 row_head row_field z n 2 some_is less (omega arith));
   }
 
   -- A row stays so where the heads, the used records and the log stay, and no record becomes attached.
@@ -271,23 +290,17 @@ module _ {E A W : Type 0} where
       here m e = subst (λ (k : ℕ). Stays (cell_word words z k 2) (cell_word words' z k 2)) (sym e)
           (subst (λ (f : ℕ). Stays (cell_word words z n f) (cell_word words' z n f)) left i.here)
 
-  pub row_gathers : Closes 1 Adds row_alive row_count row_pairs
+  pub row_own_changes : HasOwnChanges Adds (λ change. 0)
+  row_own_changes z words g r = none_logged (λ change. 0) g.order r.log
+
+  pub row_gathers : Closes 1 Adds (λ z words contents live. RowGathered z words contents live) row_count
       (λ z log pairs. RowTells z log pairs) (λ z log p placed. RowTellsPass z log p placed)
-  unfolding times
-  row_gathers z words g b r = (
-    record {
-      once = λ n. one_at_most (eqb 3 n);
-      low = refl;
-      high = λ n more. ap (λ (c : Bool). cond c 1 0) (ne_eqb 3 n (omega (arith, more, b.within.some_records)));
-    },
-    refl,
-    (r.log, refl),
+  row_gathers z words g contents live b r is = (
+    subst (Gathers z) (sym is.1) (three_alone z (omega (arith, b.within.some_records))),
+    ap (λ (l : List ℕ). length l) is.1,
+    (r.log, is.0),
     λ p low. r.placed p,
   )
-    where
-      one_at_most : (c : Bool) → cond c 1 0 ≤ 1
-      one_at_most true = omega arith
-      one_at_most false = omega arith
 
   three_words : (z : Sizes) (words : List ℕ) (g : PoolState E A W) → Base 1 z words g → IsRow z words g → IsWhole z words g
       → Exactly z words
@@ -300,6 +313,28 @@ module _ {E A W : Type 0} where
       word : (n : ℕ) → 1 ≤ n → n ≤ 3 → g.status n ≡ attached → cell_word words z n 2 ≡ row_link n
       word n some_is low is = exact (row_link n) (cell_word words z n 2) (r.links n some_is low (attached_linked (g.status n) is))
           (b.links.linked n 0 (some_is, omega (arith, low, b.within.some_records)) (omega arith) is).valid
+
+  -- The head leads to the first record and its links to the others, or the head leads to the last one, which alone is attached
+  -- then.
+  pub row_reached : ReachesAll 1 Adds
+  row_reached z words g n b r number is = ⊎_elim whole cut r.row
+    where
+      some_head : 0 < z.heads
+      some_head = omega (arith, b.within.some_heads)
+
+      whole : IsWhole z words g → Reached 1 z words n
+      whole w = let e = three_words z words g b r w in
+          let one : Reached 1 z words 1 = by_head 0 some_head (ap target w.head) in
+          let two : Reached 1 z words 2 =
+          by_link 1 0 (omega arith, omega (arith, b.within.some_records)) (omega arith) (ap target e.first) one in
+          let three : Reached 1 z words 3 = by_link 2 0 (omega arith, omega (arith, b.within.some_records)) (omega arith)
+          (ap target e.second) two in
+          each_of_three (λ m. Reached 1 z words m) one two three n number.0 (r.no_other n number is)
+
+      cut : IsCut z words g → Reached 1 z words n
+      cut c = each_of_three (λ m. g.status m ≡ attached → Reached 1 z words m) (λ at. absurd (c.first at))
+          (λ at. absurd (c.second at))
+          (λ _. by_head 0 some_head (ap target c.head)) n number.0 (r.no_other n number is) is
 
   -- where the head has its first word, the row is whole
   whole_at : (z : Sizes) (words : List ℕ) (g : PoolState E A W) → IsRow z words g → head_word words z 0 ≡ 16 → IsWhole z words g
@@ -365,6 +400,9 @@ module _ {E A W : Type 0} where
           (λ no. absurd (no (0, refl))) (λ no. absurd (no (1, refl)))
           (λ no. not_in_two (target (cell_word words z 3 2)) (omega (arith, words_are.last)) (omega (arith, words_are.last)))
           n number.0 (r.no_other n number is) out
+
+  pub row_chained : Chained 1 Adds FirstTwo May
+  row_chained z words g q place guard first new b r pass is may same = row_ordered z q.walk q.own place guard first new may
 
   pub row_detaches : MayDetach 1 Adds FirstTwo May
   row_detaches z words g q place guard first new b r pass is may four named unused same =

@@ -8,7 +8,7 @@ ghost use Rattle.pp_rule.specs.Steps.{IsUnused};
 ghost use Rattle.pp_base.specs.Passes.{known, Fits, IsSame};
 ghost use Rattle.pp_base.specs.Sources.{side_number, source_place, IsReadable};
 ghost use Rattle.pp_base.specs.Chains.{chain_at, spent_numbers, SetAside, LetGo, InvalidatedAt, RetiredOldest};
-ghost use Rattle.pp_base.specs.Chains.{DetachedAt, MayTake};
+ghost use Rattle.pp_base.specs.Chains.{DetachedAt, OrderedAt, MayTake};
 
 use crate::hazards::locate;
 use crate::pool::{Pass, Pool};
@@ -23,7 +23,8 @@ use std::marker::Brand;
 const INVALID: u64 = 4;
 
 /// Exchanges the first word of a link for the new one. Where the link was as it is expected, the records that the new word
-/// leads past are a chain in hand, the newest one, which the frontier word guards. Gives the word that was found.
+/// leads past are a chain in hand, the newest one, which the frontier word guards. Gives the word that was found; one that is
+/// not as expected is learnt as a load learns it.
 pub fn detach<S: Shape>(
     pool: &Pool<S>,
     pass: &mut Pass<S>,
@@ -42,14 +43,21 @@ pub fn detach<S: Shape>(
     requires unused { IsUnused word (known pass.old.seat) }
     requires few { length (known pass.old.seat).chains < 4 }
     ensures same { IsSame pass.old.seat pass.new.seat }
-    ensures made { DetachedAt pool.now.layout S.chain at side word (word_of first) (word_of new) result pass.old.seat pass.new.seat }
+    ensures made { DetachedAt pool.now.layout S.frozen S.chain at side word (word_of first) (word_of new) result
+        pass.old.seat pass.new.seat }
+    ensures order { OrderedAt S.SIDES S.chain word (word_of first) (word_of new) result pass.old.seat }
     ensures walk { pass.new.walk ≡ pass.old.walk }
     ensures purse { MayTake (result ≡ word_of first) (record { first = first.number; guard = word; frontier = new.number })
         pass.old.purse pass.new.purse }
 {
     let place = locate(pool, pass, at, side);
     let expected = first.word();
-    let about = About { word, ..NOTHING };
+    let about = About {
+        word,
+        at,
+        side,
+        ..NOTHING
+    };
     let found = exchange_word::<S, Brand>(pool, &mut pass.seat, place, expected, new.word(), about);
     if found == expected {
         let (first, frontier) = (first.number(), new.number());

@@ -16,7 +16,7 @@ use pp_rule::Shape;
 use std::marker::Brand;
 
 /// Where the link stands that a pass may load there.
-pub(crate) fn locate<S: Shape>(pool: &Pool<S>, pass: &Pass<S>, at: Place, side: Side) -> u32
+pub fn locate<S: Shape>(pool: &Pool<S>, pass: &Pass<S>, at: Place, side: Side) -> u32
     requires fits { Fits pool.now.table.shared.table_id pool.now.layout pass.now.seat }
     requires readable { IsReadable S.SIDES pool.now.layout (known pass.now.seat) at side }
     ensures place { result ≡ source_place pool.now.layout (known pass.now.seat) at side }
@@ -57,12 +57,12 @@ pub fn clear<S: Shape>(pool: &Pool<S>, pass: &mut Pass<S>, word: u8)
     pass.walk[word as usize] = 0;
 }
 
-/// Loads the key or the value of the record that is held in a walk word: what it was published with.
+/// Loads the key or a half of the value of the record that is held in a walk word: what it was published with.
 pub fn read<S: Shape>(pool: &Pool<S>, pass: &mut Pass<S>, word: u8, field: Field) -> u64
     requires fits { Fits pool.now.table.shared.table_id pool.now.layout pass.old.seat }
     requires word { word < 5 }
     requires held { (slot (known pass.old.seat) word).held ≡ true }
-    requires field { field_number field < 2 }
+    requires field { (field_number field ≢ 2) × (field_number field ≢ 3) }
     ensures same { IsSame pass.old.seat pass.new.seat }
     ensures read { ReadHeld pool.now.layout word field result pass.old.seat pass.new.seat }
     ensures purse { pass.new.purse ≡ pass.old.purse }
@@ -94,7 +94,7 @@ pub fn load_link<S: Shape>(pool: &Pool<S>, pass: &mut Pass<S>, at: Place, side: 
 }
 
 /// Loads a link again, whose first word leads to the record that is announced in a walk word. Where the link is as it
-/// was, the record is held.
+/// was, the record is held. Another word is learnt as a first load learns it.
 pub fn confirm<S: Shape>(
     pool: &Pool<S>,
     pass: &mut Pass<S>,
@@ -110,12 +110,14 @@ pub fn confirm<S: Shape>(
     requires named { (slot (known pass.old.seat) word).named ≡ target first }
     requires first { (invalid_bit first ≡ 0) × (target first ≢ 0) }
     ensures same { IsSame pass.old.seat pass.new.seat }
-    ensures confirmed { ConfirmedAt pool.now.layout at side word first result pass.old.seat pass.new.seat }
+    ensures confirmed { ConfirmedAt pool.now.layout S.frozen at side word first result pass.old.seat pass.new.seat }
     ensures purse { pass.new.purse ≡ pass.old.purse }
 {
     let place = locate(pool, pass, at, side);
     let about = About {
         word,
+        at,
+        side,
         number: first,
         ..NOTHING
     };

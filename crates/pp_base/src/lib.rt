@@ -10,6 +10,7 @@ pub mod purse;
 pub mod row;
 pub mod scan;
 pub mod seats;
+pub mod shelves;
 pub mod source;
 pub mod steps;
 

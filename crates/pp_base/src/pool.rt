@@ -2,7 +2,8 @@
 
 ghost use Rattle.std.specs.Prelude.{◌≡◌, ◌+◌, ◌<◌, ◌≤◌, ◌↔◌, true, length};
 ghost use Rattle.pp_link.specs.Places.{total};
-ghost use Rattle.pp_base.specs.Passes.{Keeping, known, IsIdle};
+ghost use Rattle.pp_base.specs.Made.{HasRun};
+ghost use Rattle.pp_base.specs.Passes.{Keeping, known, view, IsIdle};
 
 use crate::purse::Purse;
 use atomic_table::{Seat, Table};
@@ -33,6 +34,7 @@ pub struct Pass<S: Shape> {
     /// Its lists, and its frontier words.
     pub purse: Purse,
     ghost keeping: { Keeping S.SENTINELS S.SIDES seat number share walk purse },
+    ghost run: { HasRun S.SENTINELS S.first_head S.first_field S.caller_of (view seat) },
 }
 
 impl<S: Shape> Pass<S> {

@@ -32,7 +32,7 @@ pub struct Purse {
 
 impl Purse {
     /// One more chain is in hand, the newest. There is room for it.
-    pub(crate) fn take_in_hand(&mut self, chain: InHand)
+    pub fn take_in_hand(&mut self, chain: InHand)
         requires { length self.old.chains.items < vec_capacity self.old.chains }
         ensures { TookInHand chain self.old self.new }
     {

@@ -4,9 +4,10 @@
 ghost use Rattle.std.specs.Prelude.{◌≡◌};
 ghost use Rattle.pp_link.specs.Links.{word_of};
 ghost use Rattle.pp_base.specs.Row.{row_head, row_link, row_field, has_flag, IsRow, row_chain, MayCut};
-ghost use Rattle.pp_base.specs.Row.{row_pairs, row_alive, row_count, RowTells, RowTellsPass};
+ghost use Rattle.pp_base.specs.Row.{RowGathered, row_count, RowTells, RowTellsPass};
 ghost use Rattle.pp_base.specs.RowLaws.{row_sided, row_fits, row_heads_open, row_links_open, row_freezes, row_opened, row_alike};
 ghost use Rattle.pp_base.specs.RowLaws.{row_clears, row_invalidates, row_chained, row_detaches, row_detached, row_gathers};
+ghost use Rattle.pp_base.specs.RowLaws.{row_reached, row_own_changes};
 
 use pp_link::{Field, Layout, Link};
 use pp_model::Pair;
@@ -53,9 +54,7 @@ impl Shape for RowShape {
 
     ghost may_detach = { λ z walk own place first new. MayCut z walk place first new };
 
-    ghost pairs = { row_pairs };
-
-    ghost alive = { row_alive };
+    ghost gathered = { λ z words contents live. RowGathered z words contents live };
 
     ghost live_count = { row_count };
 
@@ -63,12 +62,14 @@ impl Shape for RowShape {
 
     ghost tells_pass = { λ z log p placed. RowTellsPass z log p placed };
 
+    ghost caller_of = { λ change. 0 };
+
     fn opening(number: u32, field: Field) -> u64 {
         match field {
             Field::Key => number as u64,
             Field::Value => 10 * number as u64,
             Field::Left => opening_link(number).word(),
-            Field::Right => 0,
+            Field::Right | Field::High => 0,
         }
     }
 
@@ -99,11 +100,15 @@ impl Shape for RowShape {
 
     ghost invalidates = { row_invalidates };
 
+    ghost reached = { row_reached };
+
     ghost chained = { row_chained };
 
     ghost detaches = { row_detaches };
 
     ghost detached = { row_detached };
+
+    ghost own_changes = { row_own_changes };
 
     ghost gathers = { row_gathers };
 }

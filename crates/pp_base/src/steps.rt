@@ -5,12 +5,14 @@ ghost use prog.Atomic.{either};
 ghost use Rattle.std.specs.Prelude.{◌==◌};
 ghost use Rattle.atomic_table.specs.Table.{Me};
 ghost use Rattle.pp_link.specs.Places.{total};
-ghost use Rattle.pp_base.specs.Made.{MayStep};
+ghost use Rattle.pp_base.specs.Made.{MayStep, HasRun};
+ghost use Rattle.pp_base.specs.Passes.{view};
 
 use crate::pool::Pool;
 use crate::source::{Place, Side};
 use atomic_table::{Play, Seat};
 use pp_link::Field;
+use pp_model::Call;
 use pp_rule::Shape;
 use pp_rule::views::SeatView;
 use std::marker::{Brand, PhantomData};
@@ -25,12 +27,16 @@ impl<V> StepNote<V> for Brand {
     ghost then = { λ _ _ _. Unit {0} };
 }
 
-struct Told<N> {
+struct Told<S, N> {
+    shape: PhantomData<S>,
     note: PhantomData<N>,
 }
 
-impl<V, N: StepNote<V>> Play<(), V> for Told<N> {
-    ghost then = { λ _ m n m'. N.then m n m' };
+impl<S: Shape, N: StepNote<SeatView<S::Entry, S::Said, S::Own>>> Play<
+    (),
+    SeatView<S::Entry, S::Said, S::Own>,
+> for Told<S, N> {
+    ghost then = { λ _ m n m'. N.then m n m' × HasRun S.SENTINELS S.first_head S.first_field S.caller_of m'.0 };
 }
 
 /// What a step is about. The step doesn't read it: the proof does, where it picks what the step tells.
@@ -43,6 +49,8 @@ pub struct About {
     pub side: Side,
     /// A link's word, or a record's number.
     pub number: u64,
+    /// A call of a map.
+    pub call: Call,
 }
 
 /// About nothing.
@@ -52,6 +60,7 @@ pub const NOTHING: About = About {
     at: Place::Walk(0),
     side: Side::Left,
     number: 0,
+    call: Call::Get { key: 0 },
 };
 
 /// Loads the word at a place.
@@ -67,8 +76,9 @@ pub fn load_word<S: Shape, N: StepNote<SeatView<S::Entry, S::Said, S::Own>>>(
         (λ n. n) (N.then seat.old.me) }
     ensures table { seat.new.table_id ≡ seat.old.table_id }
     ensures told { N.then seat.old.me result seat.new.me }
+    ensures run { HasRun S.SENTINELS S.first_head S.first_field S.caller_of (view seat.new) }
 {
-    pool.table.shared.load::<Told<N>>(seat, place as usize)
+    pool.table.shared.load::<Told<S, N>>(seat, place as usize)
 }
 
 /// Stores the new word at a place.
@@ -85,10 +95,11 @@ pub fn store_word<S: Shape, N: StepNote<SeatView<S::Entry, S::Said, S::Own>>>(
         (λ _. new) (λ _. N.then seat.old.me new) }
     ensures table { seat.new.table_id ≡ seat.old.table_id }
     ensures told { N.then seat.old.me new seat.new.me }
+    ensures run { HasRun S.SENTINELS S.first_head S.first_field S.caller_of (view seat.new) }
 {
     pool.table
         .shared
-        .store::<Told<N>>(seat, place as usize, new);
+        .store::<Told<S, N>>(seat, place as usize, new);
 }
 
 /// Stores the new word at a place where the first word stands there. Gives the word that was found.
@@ -106,10 +117,11 @@ pub fn exchange_word<S: Shape, N: StepNote<SeatView<S::Entry, S::Said, S::Own>>>
         (λ n. either (n == first) new n) (N.then seat.old.me) }
     ensures table { seat.new.table_id ≡ seat.old.table_id }
     ensures told { N.then seat.old.me result seat.new.me }
+    ensures run { HasRun S.SENTINELS S.first_head S.first_field S.caller_of (view seat.new) }
 {
     pool.table
         .shared
-        .compare_exchange::<Told<N>>(seat, place as usize, first, new)
+        .compare_exchange::<Told<S, N>>(seat, place as usize, first, new)
 }
 
 /// Sets bits of the word at a place. Gives the word that was found.
@@ -126,10 +138,11 @@ pub fn set_bits<S: Shape, N: StepNote<SeatView<S::Entry, S::Said, S::Own>>>(
         (λ n. bit_or n bits) (N.then seat.old.me) }
     ensures table { seat.new.table_id ≡ seat.old.table_id }
     ensures told { N.then seat.old.me result seat.new.me }
+    ensures run { HasRun S.SENTINELS S.first_head S.first_field S.caller_of (view seat.new) }
 {
     pool.table
         .shared
-        .fetch_or::<Told<N>>(seat, place as usize, bits)
+        .fetch_or::<Told<S, N>>(seat, place as usize, bits)
 }
 
 /// Stores the new word at a place. Gives the word that was found.
@@ -146,6 +159,9 @@ pub fn swap_word<S: Shape, N: StepNote<SeatView<S::Entry, S::Said, S::Own>>>(
         (λ _. new) (N.then seat.old.me) }
     ensures table { seat.new.table_id ≡ seat.old.table_id }
     ensures told { N.then seat.old.me result seat.new.me }
+    ensures run { HasRun S.SENTINELS S.first_head S.first_field S.caller_of (view seat.new) }
 {
-    pool.table.shared.swap::<Told<N>>(seat, place as usize, new)
+    pool.table
+        .shared
+        .swap::<Told<S, N>>(seat, place as usize, new)
 }

@@ -3,7 +3,7 @@
 
 ghost use Rattle.std.specs.Prelude.{◌≡◌, ◌≤◌, vec_capacity};
 ghost use Rattle.pp_model.specs.Lists.{AtEach};
-ghost use Rattle.pp_model.specs.MapCalls.{AnswersCalls};
+ghost use Rattle.pp_model.specs.MapCalls.{MayCall, AnswersCall, AnswersCalls};
 ghost use Rattle.pp_callers.specs.Jobs.{MayMake, AtBoth};
 
 use pp_model::calling::answer_one;
@@ -96,10 +96,32 @@ fn make_calls<M: MapCalls, G: Gate>(
 {
     let mut number: u32 = 1;
     for call in calls {
-        gate.before(caller, number);
-        let answer = answer_one(map, pass, *call, races);
-        gate.after(caller, number);
+        let answer = make_call(map, caller, number, pass, *call, races, gate);
         enter(answers, answer);
         number = number.saturating_add(1);
     }
+}
+
+/// Makes one call, the caller's of this number, between `before` and `after` of the gate.
+fn make_call<M: MapCalls, G: Gate>(
+    map: &M,
+    caller: u32,
+    number: u32,
+    pass: &mut M::Pass,
+    call: Call,
+    races: u64,
+    gate: &G,
+) -> Answer
+    requires belongs { M.Belongs map.now pass.old }
+    requires idle { M.Idle pass.old }
+    requires may { MayCall call races (M.pass_view pass.old) }
+    ensures belongs { M.Belongs map.now pass.new }
+    ensures idle { M.Idle pass.new }
+    ensures answered { AnswersCall M.meaning (M.sizes map.now) call races
+        (M.pass_view pass.old) (M.pass_view pass.new) result }
+{
+    gate.before(caller, number);
+    let answer = answer_one(map, pass, call, races);
+    gate.after(caller, number);
+    answer
 }

@@ -1,2 +1,3 @@
 pub mod Trying
 pub mod Resting
+pub mod Halving

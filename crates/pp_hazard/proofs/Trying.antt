@@ -1,7 +1,7 @@
 -- The steps of a try to protect a record, and what they leave of its pass.
 use Rattle.std.proofs.Common.{◌≡◌, ◌≢◌, ◌⊎◌, inl, inr, ℕ, ◌+◌, ◌<◌, ◌≤◌, Bool, true, false, cond, ◌&&◌}
 use Rattle.std.proofs.Common.{List, [], ◌∷◌, length, set, refl, sym, ap, ◌∙◌, subst, arith}
-use Rattle.std.proofs.lemmas.List.{set-set}
+use Rattle.std.proofs.lemmas.List.{set-set, length-set}
 use Rattle.std.proofs.Math.Bool.{false≢true}
 use Rattle.std.proofs.Math.Decide.{ℕ_discrete}
 use mathlib.Core.Logic.{dite}
@@ -28,6 +28,9 @@ use Rattle.pp_hazard.specs.Protection.{Protects, FindsNil, FindsInvalid, FindsOt
 
 same_record : (s : WalkSlot) → SameRecord s s
 same_record s = record { named = refl; held = refl; key = refl; value = refl }
+
+same_on : (s t u : WalkSlot) → SameRecord s t → SameRecord t u → SameRecord s u
+same_on s t u a b = record { named = b.named ∙ a.named; held = b.held ∙ a.held; key = b.key ∙ a.key; value = b.value ∙ a.value }
 
 module _ {W : Type 0} where
   -- the pass knows what it knew, and perhaps more of the records that it holds
@@ -82,6 +85,18 @@ module _ {W : Type 0} where
       by true = learnt_here q i more (subst (λ (n : ℕ). i < n) (sym five) low.0)
           (record { named = refl; held = refl; key = refl; value = refl })
 
+  learnt_five : (sides : ℕ) (z : Sizes) (frozen : ℕ → Bool) (at : Place) (side : Side) (word : ℕ) (q : PassState W)
+      → length q.walk ≡ 5 → length (learning_at frozen at side word q).walk ≡ 5
+  learnt_five sides z frozen (Head h) side word q five = five
+  learnt_five sides z frozen (Walk i) side word q five = by (frozen word && (slot q i).held)
+    where
+      more : WalkSlot
+      more = record (slot q i) { learnt = (side_number side, word) ∷ (slot q i).learnt }
+
+      by : (b : Bool) → length (cond b (with_walk i more q) q).walk ≡ 5
+      by false = five
+      by true = length-set q.walk i more ∙ five
+
   -- after that another walk word has any slot
   pub but_one : (i : ℕ) (q q' : PassState W) (w : WalkSlot) (own : W) → Learnt q q'
       → SameBut i q (record q' { walk = set q'.walk i w; own = own })
@@ -92,6 +107,19 @@ module _ {W : Type 0} where
     retired_are = l.retired_are;
     chains = l.chains;
     scan = l.scan;
+  }
+
+  -- so it is where more was learnt between
+  pub but_more : (i : ℕ) (q r q' : PassState W) (w : WalkSlot) (own : W) → SameBut i q r → Learnt r q'
+      → SameBut i q (record q' { walk = set q'.walk i w; own = own })
+  but_more i q r q' w own s l = let q'' : PassState W = record q' { walk = set q'.walk i w; own = own } in record {
+    walk = λ j five ne. subst (λ (s : WalkSlot). SameRecord (slot q j) s) (sym (slot_else q' q'' i w refl j ne))
+        (same_on (slot q j) (slot r j) (slot q' j) (s.walk j five ne) (l.walk j));
+    frontier = l.frontier ∙ s.frontier;
+    owned = l.owned ∙ s.owned;
+    retired_are = l.retired_are ∙ s.retired_are;
+    chains = l.chains ∙ s.chains;
+    scan = l.scan ∙ s.scan;
   }
 
   -- the last slot that a walk word got counts
@@ -113,6 +141,16 @@ module _ {W : Type 0} where
   same_source sides z (Head h) side i q q' low free same = refl
   same_source sides z (Walk j) side i q q' low free same = ap (λ (n : ℕ). cell_place z n (2 + side_number side))
       (same.walk j low.0 (λ e. false≢true (sym free ∙ (ap (λ (k : ℕ). (slot q k).held) (sym e) ∙ low.2)))).named
+
+  -- and it may load it still
+  still_readable : (sides : ℕ) (z : Sizes) (at : Place) (side : Side) (i : ℕ) (q q' : PassState W) → IsReadable sides z q at side
+      → (slot q i).held ≡ false → SameBut i q q' → IsReadable sides z q' at side
+  still_readable sides z (Head h) side i q q' low free same = low
+  still_readable sides z (Walk j) side i q q' low free same = (
+    low.0,
+    low.1,
+    (same.walk j low.0 (λ e. false≢true (sym free ∙ (ap (λ (k : ℕ). (slot q k).held) (sym e) ∙ low.2)))).held ∙ low.2,
+  )
 
 module _ {E A W : Type 0} where
   quiet_known : (kind place word left : ℕ) (q : PassState W) (v w : SeatView E A W)
@@ -138,9 +176,29 @@ module _ {E A W : Type 0} (sides : ℕ) (z : Sizes) (frozen : ℕ → Bool) (for
   others_held v' word p = subst (λ (q : PassState W). SameBut i v.known q) (sym p.known)
       (but_one i v.known (learnt word) (holding (target word) p.key p.value) (learnt word).own (more word))
 
-  pub others_lost : (v' : SeatView E A W) (second : ℕ) → FindsOther z frozen forget at side i v v' second → SameBut i v.known v'.known
-  others_lost v' second f = subst (λ (q : PassState W). SameBut i v.known q) (sym f.known)
-      (but_one i v.known (learnt f.first) (naming 0) (forget i (learnt f.first).own) (more f.first))
+  -- what the pass knows once it has announced the record that the first word leads to
+  abbrev pub announced_at : ℕ → PassState W
+  announced_at first = with_walk i (naming (target first)) (learnt first)
+
+  same_announced : (first : ℕ) → SameBut i v.known (announced_at first)
+  same_announced first = but_one i v.known (learnt first) (naming (target first)) (learnt first).own (more first)
+
+  -- and what it learns then of another word
+  learnt_more : (free : (slot v.known i).held ≡ false) (first second : ℕ)
+      → Learnt (announced_at first) (learning_at frozen at side second (announced_at first))
+  learnt_more free first second = learnt_at sides z frozen at side second (announced_at first)
+      (length-set (learnt first).walk i (naming (target first)) ∙ five_on)
+      (still_readable sides z at side i v.known (announced_at first) readable free (same_announced first))
+    where
+      five_on : length (learnt first).walk ≡ 5
+      five_on = learnt_five sides z frozen at side first v.known five
+
+  pub others_lost : (free : (slot v.known i).held ≡ false) (v' : SeatView E A W) (second : ℕ)
+      → FindsOther z frozen forget at side i v v' second → SameBut i v.known v'.known
+  others_lost free v' second f = let q' : PassState W = learning_at frozen at side second (announced_at f.first) in
+      subst (λ (q : PassState W). SameBut i v.known q) (sym f.known)
+      (but_more i v.known (announced_at f.first) q' (naming 0) (forget i q'.own) (same_announced f.first)
+      (learnt_more free f.first second))
 
   module _ (v1 : SeatView E A W) (first : ℕ) (loaded : LoadedLink (learnt first) first link_place v v1) where
     loaded_known : v1.known ≡ learnt first
@@ -166,9 +224,10 @@ module _ {E A W : Type 0} (sides : ℕ) (z : Sizes) (frozen : ℕ → Bool) (for
         (valid : invalid_bit first ≡ 0) (real : target first ≢ 0)
         (announced : MadeQuietStep announce_step (walk_place z v1.known.number i) (target first) (target first)
         (with_walk i (naming (target first)) v1.known) v1 v2)
-        (confirmed : Confirmed i first second (source_place z v2.known at side) v2 v3) where
+        (confirmed : Confirmed i first second (source_place z v2.known at side)
+        (learning_at frozen at side second v2.known) v2 v3) where
       abbrev pub named : PassState W
-      named = with_walk i (naming (target first)) (learnt first)
+      named = announced_at first
 
       named_known : v2.known ≡ named
       named_known = quiet_known _ _ _ _ _ v1 v2 announced ∙ ap (with_walk i (naming (target first))) loaded_known
@@ -180,8 +239,7 @@ module _ {E A W : Type 0} (sides : ℕ) (z : Sizes) (frozen : ℕ → Bool) (for
 
       place_is : source_place z v2.known at side ≡ link_place
       place_is = ap (λ (q : PassState W). source_place z q at side) named_known
-          ∙ same_source sides z at side i v.known named readable free (but_one i v.known (learnt first) (naming (target first))
-          (learnt first).own (more first))
+          ∙ same_source sides z at side i v.known named readable free (same_announced first)
 
       pub protects : second ≡ first → Protects z frozen forget at side i v v3 first
       protects e = let held = confirmed.same e in let w : WalkSlot = holding (target first) held.0 held.1.0 in record {
@@ -217,8 +275,14 @@ module _ {E A W : Type 0} (sides : ℕ) (z : Sizes) (frozen : ℕ → Bool) (for
       pub finds_other : (v4 : SeatView E A W) → second ≢ first
           → MadeQuietStep clear_step (walk_place z v3.known.number i) 0 0 (clearing forget i v3.known) v3 v4
           → FindsOther z frozen forget at side i v v4 second
-      finds_other v4 ne cleared = let idle : v3.known ≡ v2.known = quiet_known _ _ _ _ _ v2 v3 (confirmed.other ne) in
-          let same : v3.known ≡ named = idle ∙ named_known in record {
+      finds_other v4 ne cleared = let later : PassState W = learning_at frozen at side second v2.known in
+          let same : v3.known ≡ learning_at frozen at side second named = quiet_known _ _ _ _ _ v2 v3 (confirmed.other ne)
+          ∙ ap (λ (q : PassState W). learning_at frozen at side second q) named_known in
+          let learns : Learnt v2.known later =
+          subst (λ (q : PassState W). Learnt q (learning_at frozen at side second q)) (sym named_known)
+          (learnt_more free first second) in
+          let number : v3.known.number ≡ v.known.number = ap (λ (q : PassState W). q.number) same
+          ∙ ((learnt_more free first second).number ∙ (more first).number) in record {
             first = first;
             valid = valid;
             number = real_number sizes valid real;
@@ -235,13 +299,13 @@ module _ {E A W : Type 0} (sides : ℕ) (z : Sizes) (frozen : ℕ → Bool) (for
                       v3,
                       (
                         subst (λ (p : ℕ). MadeOne (confirms p second) v2 v3) place_is
-                            (plain_one (confirms (source_place z v2.known at side) second) v2.known v2 v3 refl refl (confirmed.other ne)),
+                            (plain_one (confirms (source_place z v2.known at side) second) later v2 v3 learns.number
+                            learns.owned (confirmed.other ne)),
                         (
                           v4,
                           (
                             subst (λ (p : ℕ). MadeOne (clears p) v3 v4)
-                                (ap (λ (q : PassState W). walk_place z q.number i) same
-                                ∙ ap (λ (n : ℕ). walk_place z n i) (more first).number)
+                                (ap (λ (n : ℕ). walk_place z n i) number)
                                 (plain_one (clears (walk_place z v3.known.number i)) (clearing forget i v3.known) v3 v4 refl refl cleared),
                             refl,
                           ),
@@ -252,6 +316,5 @@ module _ {E A W : Type 0} (sides : ℕ) (z : Sizes) (frozen : ℕ → Bool) (for
                 ),
               ),
             );
-            known = quiet_known _ _ _ _ _ v3 v4 cleared ∙ (ap (clearing forget i) same
-                ∙ last_slot (learnt first) i (naming (target first)) (naming 0) (forget i (learnt first).own));
+            known = quiet_known _ _ _ _ _ v3 v4 cleared ∙ ap (clearing forget i) same;
           }

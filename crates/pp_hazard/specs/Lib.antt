@@ -1,1 +1,2 @@
 pub mod Protection
+pub mod Reading

@@ -3,10 +3,11 @@ use Rattle.std.specs.Prelude.{◌≡◌, ◌≢◌, ◌⊎◌, ℕ, ◌<◌, Boo
 use Rattle.pp_link.specs.declared.layout.Sizes.{Sizes}
 use Rattle.pp_link.specs.Links.{word_of, target, invalid_bit}
 use Rattle.pp_link.specs.Places.{IsNumber, walk_place}
+use Rattle.pp_rule.specs.declared.views.Halves.{Halves}
 use Rattle.pp_rule.specs.declared.views.WalkSlot.{WalkSlot}
 use Rattle.pp_rule.specs.declared.views.PassState.{PassState}
 use Rattle.pp_rule.specs.declared.views.SeatView.{SeatView}
-use Rattle.pp_rule.specs.Views.{slot}
+use Rattle.pp_rule.specs.Views.{naming, slot}
 use Rattle.pp_rule.specs.Steps.{with_walk, clearing, holding}
 use Rattle.pp_base.specs.declared.source.Side.{Side}
 use Rattle.pp_base.specs.declared.source.Place.{Place}
@@ -55,7 +56,7 @@ module _ {E A W : Type 0} (z : Sizes) (frozen : ℕ → Bool) (forget : ℕ → 
     pub valid : invalid_bit word ≡ 0
     pub number : IsNumber z (target word)
     pub key : ℕ
-    pub value : ℕ
+    pub value : Halves
     pub steps : Made (loads link_at word ∷ announces word_at (target word) ∷ confirms link_at word ∷ []) before after
     pub known : after.known ≡ with_walk i (holding (target word) key value) (with_link word)
 
@@ -73,14 +74,15 @@ module _ {E A W : Type 0} (z : Sizes) (frozen : ℕ → Bool) (forget : ℕ → 
     pub steps : Made (loads link_at word ∷ []) before after
     pub known : after.known ≡ with_link word
 
-  -- The link led to a record, and was another word when it was loaded again.
+  -- The link led to a record, and was another word when it was loaded again. Both words are learnt where they are frozen.
   pub record FindsOther (second : ℕ) : Type 0 where
     pub first : ℕ
     pub valid : invalid_bit first ≡ 0
     pub number : IsNumber z (target first)
     pub other : second ≢ first
     pub steps : Made (loads link_at first ∷ announces word_at (target first) ∷ confirms link_at second ∷ clears word_at ∷ []) before after
-    pub known : after.known ≡ clearing forget i (with_link first)
+    pub known : after.known ≡ clearing forget i
+        (learning_at frozen at side second (with_walk i (naming (target first)) (with_link first)))
 
   -- each answer, by the words that were found
   abbrev pub Answered : Protect → Type 0

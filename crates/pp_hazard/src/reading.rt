@@ -2,8 +2,9 @@
 
 ghost use Rattle.std.specs.Prelude.{◌≡◌, ◌<◌, ℕ, true};
 ghost use Rattle.pp_link.specs.Links.{word_of};
-ghost use Rattle.pp_link.specs.declared.layout.Field.TheVariants.{Key, Value};
-ghost use Rattle.pp_rule.specs.Views.{slot};
+ghost use Rattle.pp_link.specs.declared.layout.Field.TheVariants.{Key};
+ghost use Rattle.pp_rule.specs.Views.{slot, value_of};
+ghost use Rattle.pp_hazard.specs.Reading.{ReadValue};
 ghost use Rattle.pp_base.specs.Passes.{known, Fits, IsSame};
 ghost use Rattle.pp_base.specs.Sources.{IsReadable};
 ghost use Rattle.pp_base.specs.Made.{ReadHeld, LoadedAt};
@@ -40,16 +41,18 @@ pub fn key<S: Shape>(pool: &Pool<S>, pass: &mut Pass<S>, word: u8) -> u64
     read(pool, pass, word, Field::Key)
 }
 
-/// Loads the value of the record that the pass holds in a walk word: one step. It is the value that the record was
-/// published with.
-pub fn value<S: Shape>(pool: &Pool<S>, pass: &mut Pass<S>, word: u8) -> u64
+/// Loads the value of the record that the pass holds in a walk word: two steps, the low half first. It is the value that the
+/// record was published with.
+pub fn value<S: Shape>(pool: &Pool<S>, pass: &mut Pass<S>, word: u8) -> u128
     requires fits { Fits pool.now.table.shared.table_id pool.now.layout pass.old.seat }
     requires word { word < 5 }
     requires held { (slot (known pass.old.seat) word).held ≡ true }
     ensures same { IsSame pass.old.seat pass.new.seat }
-    ensures read { ReadHeld pool.now.layout word Value result pass.old.seat pass.new.seat }
-    ensures value { result ≡ (slot (known pass.old.seat) word).value }
+    ensures read { ReadValue pool.now.layout word result pass.old.seat pass.new.seat }
+    ensures value { result ≡ value_of (slot (known pass.old.seat) word).value }
     ensures purse { pass.new.purse ≡ pass.old.purse }
 {
-    read(pool, pass, word, Field::Value)
+    let low = read(pool, pass, word, Field::Value);
+    let high = read(pool, pass, word, Field::High);
+    u128::from(low) + 18446744073709551616 * u128::from(high)
 }

@@ -1,9 +1,8 @@
 -- Different words of a table have different places, all below the total, and each place is a word's.
-use Rattle.std.proofs.Common.{◌≡◌, ℕ, ◌+◌, ◌*◌, ◌-◌, ◌/◌, ◌%◌, ◌<◌, ◌≤◌, ◌⊎◌, ⊎_elim, refl, arith, ap, ap₂, sym, ◌∙◌}
+use Rattle.std.proofs.Common.{◌≡◌, ℕ, ◌+◌, ◌*◌, ◌-◌, ◌/◌, ◌%◌, ◌<◌, ◌≤◌, ⊎_elim, refl, arith, ap, ap₂}
 use Rattle.std.proofs.lemmas.Bool.{cases_lt}
 use Rattle.pp_link.specs.declared.layout.Sizes.{Sizes}
-use Rattle.pp_link.specs.Places.{IsNumber, IsLayout, Word, seat, walk, frontier, shelf, head, cell, IsWordOf, place_of, total}
-use Rattle.pp_link.specs.Places.{walk_place, frontier_place, shelf_place, head_place, cell_place, seat_place}
+use Rattle.pp_link.specs.Places.{IsLayout, Word, seat, walk, frontier, shelf, head, cell, IsWordOf, place_of, total}
 
 below : (z : Sizes) (w : Word) → IsWordOf z w → place_of z w < total z
 below z seat is = omega arith
@@ -65,7 +64,7 @@ each z place low = ⊎_elim
     (λ (early : place < 1 + 17 * z.passes + z.heads). (head (place - 1 - 17 * z.passes), omega arith, omega arith))
     (λ (last : 1 + 17 * z.passes + z.heads ≤ place).
     let at : ℕ = place - 1 - 17 * z.passes - z.heads in
-    (cell (at / 4 + 1) (at % 4), ((omega arith, omega arith), omega arith), omega arith))
+    (cell (at / 5 + 1) (at % 5), ((omega arith, omega arith), omega arith), omega arith))
     (cases_lt place (1 + 17 * z.passes + z.heads)))
     (cases_lt place (1 + 17 * z.passes)))
     (cases_lt place (1 + 9 * z.passes)))

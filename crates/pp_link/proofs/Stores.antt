@@ -1,5 +1,5 @@
 -- A store to one word of a table leaves every other reading as it was.
-use Rattle.std.proofs.Common.{◌≡◌, ◌≢◌, ℕ, ◌+◌, ◌*◌, ◌-◌, ◌<◌, ◌≤◌, List, length, arith}
+use Rattle.std.proofs.Common.{◌≡◌, ◌≢◌, ℕ, ◌*◌, ◌<◌, List, length, arith}
 use Rattle.std.proofs.Math.ListN.{set, get_or}
 use Rattle.std.proofs.lemmas.List.{get_or-set_same, get_or-set_other}
 use Rattle.pp_link.specs.declared.layout.Sizes.{Sizes}
@@ -58,7 +58,7 @@ module _ (z : Sizes) (words : List ℕ) (value : ℕ) (size : length words ≡ t
     cells = λ n f number field. other (head_place z head) (cell_place z n f) (omega arith);
   }
 
-  pub cell_stored : (n f : ℕ) → IsNumber z n → f < 4 → CellStored z words (set words (cell_place z n f) value) n f value
+  pub cell_stored : (n f : ℕ) → IsNumber z n → f < 5 → CellStored z words (set words (cell_place z n f) value) n f value
   unfolding walk_word frontier_word shelf_word head_word cell_word
   cell_stored n f number field = record {
     here = here (cell_place z n f) (omega arith);

@@ -1,5 +1,5 @@
 -- A link as one word: 16 times the number of the record that it leads to, 0 for nil, and four bits.
-use Rattle.std.specs.Prelude.{◌≡◌, ℕ, ◌+◌, ◌*◌, ◌/◌, ◌%◌, Bool, true, false, nat_eq}
+use Rattle.std.specs.Prelude.{ℕ, ◌+◌, ◌*◌, ◌/◌, ◌%◌, Bool, true, false, nat_eq}
 use Rattle.pp_link.specs.declared.link.Link.{Link}
 
 abbrev pub bit : Bool → ℕ

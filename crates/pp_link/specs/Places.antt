@@ -2,7 +2,7 @@
 use Rattle.std.specs.Prelude.{◌≡◌, ℕ, ◌+◌, ◌*◌, ◌-◌, ◌<◌, ◌≤◌}
 use Rattle.pp_link.specs.declared.layout.Sizes.{Sizes}
 use Rattle.pp_link.specs.declared.layout.Field.{Field}
-use Rattle.pp_link.specs.declared.layout.Field.TheVariants.{Key, Value, Left, Right}
+use Rattle.pp_link.specs.declared.layout.Field.TheVariants.{Key, Value, Left, Right, High}
 
 -- the sizes are within the limits
 pub record IsWithin (z : Sizes) : Type 0 where
@@ -18,7 +18,7 @@ abbrev pub IsNumber : Sizes → ℕ → Type 0
 IsNumber z n = (1 ≤ n) × (n ≤ z.records)
 
 -- the words of a table: the seat word, five walk words and four frontier words a pass, eight shelf words a
--- pass, the heads, and four fields a record
+-- pass, the heads, and five fields a record
 abbrev pub seat_place : ℕ
 seat_place = 0
 
@@ -35,11 +35,11 @@ abbrev pub head_place : Sizes → ℕ → ℕ
 head_place z head = 1 + 17 * z.passes + head
 
 abbrev pub cell_place : Sizes → ℕ → ℕ → ℕ
-cell_place z number field = 1 + 17 * z.passes + z.heads + 4 * (number - 1) + field
+cell_place z number field = 1 + 17 * z.passes + z.heads + 5 * (number - 1) + field
 
 -- the number of words
 abbrev pub total : Sizes → ℕ
-total z = 1 + 17 * z.passes + z.heads + 4 * z.records
+total z = 1 + 17 * z.passes + z.heads + 5 * z.records
 
 -- the number of a record's field
 abbrev pub field_number : Field → ℕ
@@ -47,6 +47,7 @@ field_number Key = 0
 field_number Value = 1
 field_number Left = 2
 field_number Right = 3
+field_number High = 4
 
 -- a word of a table
 pub data Word : Type 0 where
@@ -64,7 +65,7 @@ IsWordOf z (walk pass word) = (pass < z.passes) × (word < 5)
 IsWordOf z (frontier pass word) = (pass < z.passes) × (word < 4)
 IsWordOf z (shelf number) = number < 8 * z.passes
 IsWordOf z (head number) = number < z.heads
-IsWordOf z (cell number field) = IsNumber z number × (field < 4)
+IsWordOf z (cell number field) = IsNumber z number × (field < 5)
 
 -- where a word stands
 abbrev pub place_of : Sizes → Word → ℕ

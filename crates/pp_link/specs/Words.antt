@@ -1,5 +1,5 @@
 -- The words of a table, read by what they are.
-use Rattle.std.specs.Prelude.{◌≡◌, ℕ, ◌+◌, ◌*◌, ◌<◌, ◌≢◌, List, length, slice_index}
+use Rattle.std.specs.Prelude.{◌≡◌, ℕ, ◌*◌, ◌<◌, ◌≢◌, List, slice_index}
 use Rattle.pp_link.specs.declared.layout.Sizes.{Sizes}
 use Rattle.pp_link.specs.Places.{IsNumber, walk_place, frontier_place, shelf_place, head_place, cell_place}
 
@@ -32,7 +32,7 @@ abbrev pub SameHeads : Sizes → List ℕ → List ℕ → Type 0
 SameHeads z old new = (h : ℕ) → h < z.heads → head_word new z h ≡ head_word old z h
 
 abbrev pub SameCells : Sizes → List ℕ → List ℕ → Type 0
-SameCells z old new = (n f : ℕ) → IsNumber z n → f < 4 → cell_word new z n f ≡ cell_word old z n f
+SameCells z old new = (n f : ℕ) → IsNumber z n → f < 5 → cell_word new z n f ≡ cell_word old z n f
 
 -- a walk word has a new value, and every other word the one that it had
 pub record WalkStored (z : Sizes) (old new : List ℕ) (pass word value : ℕ) : Type 0 where
@@ -73,7 +73,7 @@ pub record HeadStored (z : Sizes) (old new : List ℕ) (head value : ℕ) : Type
 -- of a field of a record
 pub record CellStored (z : Sizes) (old new : List ℕ) (number field value : ℕ) : Type 0 where
   pub here : cell_word new z number field ≡ value
-  pub cells : (n f : ℕ) → IsNumber z n → f < 4 → ((n ≡ number) × (f ≡ field) → ⊥) → cell_word new z n f ≡ cell_word old z n f
+  pub cells : (n f : ℕ) → IsNumber z n → f < 5 → ((n ≡ number) × (f ≡ field) → ⊥) → cell_word new z n f ≡ cell_word old z n f
   pub walks : SameWalks z old new
   pub frontiers : SameFrontiers z old new
   pub shelves : SameShelves z old new

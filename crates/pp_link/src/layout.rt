@@ -13,17 +13,20 @@ pub struct Sizes {
     pub heads: u32,
 }
 
-/// A field of a record. A list uses the left link as its next link.
+/// A field of a record: its key, the low half of its value, its links, and the high half of its value. A list uses the left
+/// link as its next link.
 #[derive(Clone, Copy, Debug, PartialEq, Eq)]
 pub enum Field {
     Key,
     Value,
     Left,
     Right,
+    /// The high half of the value.
+    High,
 }
 
 /// Where the words of a table stand: first the seat word, always 0; then five walk words a pass, four frontier
-/// words a pass, eight shelf words a pass, the heads, and four words a record.
+/// words a pass, eight shelf words a pass, the heads, and five words a record.
 #[derive(Clone, Copy, Debug, PartialEq, Eq)]
 pub struct Layout {
     sizes: Sizes,
@@ -63,7 +66,7 @@ impl Layout {
     pub fn total(&self) -> u32
         ensures { result ≡ total self.now }
     {
-        1 + 17 * self.sizes.passes + self.sizes.heads + 4 * self.sizes.records
+        1 + 17 * self.sizes.passes + self.sizes.heads + 5 * self.sizes.records
     }
 
     /// The place of a pass's walk word, one of five.
@@ -106,6 +109,6 @@ impl Layout {
         requires { IsNumber self.now number }
         ensures { result ≡ cell_place self.now number (field_number field) }
     {
-        1 + 17 * self.sizes.passes + self.sizes.heads + 4 * (number - 1) + field as u32
+        1 + 17 * self.sizes.passes + self.sizes.heads + 5 * (number - 1) + field as u32
     }
 }

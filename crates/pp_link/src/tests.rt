@@ -23,11 +23,26 @@ fn a_small_layout_has_these_places(rt: HostRuntime) {
         records: 8,
         heads: 1,
     });
-    assert_eq!(rt; layout.total(), 51);
+    assert_eq!(rt; layout.total(), 59);
     assert_eq!(rt; layout.walk_word(0, 0), 1);
     assert_eq!(rt; layout.frontier_word(0, 0), 6);
     assert_eq!(rt; layout.shelf_word(0), 10);
     assert_eq!(rt; layout.head_word(0), 18);
     assert_eq!(rt; layout.cell(1, Field::Key), 19);
-    assert_eq!(rt; layout.cell(8, Field::Right), 50);
+    assert_eq!(rt; layout.cell(8, Field::Right), 57);
+    assert_eq!(rt; layout.cell(8, Field::High), 58);
+}
+
+#[test]
+fn the_largest_layout_has_these_places(rt: HostRuntime) {
+    let layout = Layout::new(Sizes {
+        passes: 64,
+        records: 262_144,
+        heads: 4_096,
+    });
+    assert_eq!(rt; layout.total(), 1_315_905);
+    assert_eq!(rt; layout.head_word(0), 1_089);
+    assert_eq!(rt; layout.cell(1, Field::Key), 5_185);
+    assert_eq!(rt; layout.cell(262_144, Field::Key), 1_315_900);
+    assert_eq!(rt; layout.cell(262_144, Field::High), 1_315_904);
 }

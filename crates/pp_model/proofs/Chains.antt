@@ -4,26 +4,21 @@ use Rattle.std.proofs.Common.{length-append, append_assoc, append-nil, ⊎_elim,
 use Rattle.std.specs.Prelude.{slice_get}
 use Rattle.std.proofs.lemmas.List.{map-append}
 use Rattle.pp_model.specs.declared.Call.{Call}
-use Rattle.pp_model.specs.declared.Call.TheVariants.{Get, Insert, Remove}
+use Rattle.pp_model.specs.declared.Call.TheVariants.{Get, Insert, Remove, Cut}
 use Rattle.pp_model.specs.Calls.{inserts}
 use Rattle.pp_model.specs.declared.Answer.{Answer}
 use Rattle.pp_model.specs.declared.Answer.TheVariants.{Said, Full, Lost}
 use Rattle.pp_model.specs.Lists.{IsPrefix, AtEach}
 use Rattle.pp_model.specs.Pass.{PassView, MapSizes, Meaning}
 use Rattle.pp_model.specs.MapCalls.{Says, AnswersCalls, none, more, SaidCall, said_call, said_calls, MineGrew}
-use Rattle.pp_model.specs.MapCalls.{StandsIn, LeavesPurse}
+use Rattle.pp_model.specs.MapCalls.{LeavesPurse}
 use Rattle.pp_model.specs.Plain.{plain_meaning, PlainCause}
-use Rattle.pp_model.proofs.Histories.{slice_get_push}
-
-pub IsPrefix-refl : {A : Type 0} → (xs : List A) → IsPrefix xs xs
-IsPrefix-refl xs = ([], sym (append-nil xs))
-
-pub IsPrefix-trans : {A : Type 0} → (xs ys zs : List A) → IsPrefix xs ys → IsPrefix ys zs → IsPrefix xs zs
-IsPrefix-trans xs ys zs p q = (p.0 ++ q.0, q.1 ∙ (ap (λ ws. ws ++ q.0) p.1 ∙ append_assoc xs p.0 q.0))
+use Rattle.pp_model.proofs.Positions.{slice_get_push}
+pub use Rattle.pp_model.proofs.Positions.{IsPrefix-refl, IsPrefix-trans}
 
 -- one answer for each call
-pub answers_each : (meaning : Meaning) (sizes : MapSizes) (budget : ℕ) (before now : PassView) (calls : List Call) (answers : List Answer)
-    → AnswersCalls meaning sizes budget before calls answers now → length answers ≡ length calls
+pub answers_each : (meaning : Meaning) (sizes : MapSizes) (budget : ℕ) (before now : PassView) (calls : List Call)
+    (answers : List Answer) → AnswersCalls meaning sizes budget before calls answers now → length answers ≡ length calls
 answers_each meaning sizes budget before now calls answers none = refl
 answers_each meaning sizes budget before now calls answers (more cs given then_at _ call answer ran made) =
     omega (
@@ -34,36 +29,31 @@ answers_each meaning sizes budget before now calls answers (more cs given then_a
           (answer ∷ []),
     )
 
-pub caller_kept : (meaning : Meaning) (sizes : MapSizes) (budget : ℕ) (before now : PassView) (calls : List Call) (answers : List Answer)
-    → AnswersCalls meaning sizes budget before calls answers now → now.caller ≡ before.caller
+pub caller_kept : (meaning : Meaning) (sizes : MapSizes) (budget : ℕ) (before now : PassView) (calls : List Call)
+    (answers : List Answer) → AnswersCalls meaning sizes budget before calls answers now → now.caller ≡ before.caller
 caller_kept meaning sizes budget before now calls answers none = refl
 caller_kept meaning sizes budget before now calls answers (more cs given then_at _ call answer ran made) =
     made.grew.caller ∙ caller_kept meaning sizes budget before then_at cs given ran
 
 -- each call takes at most one from the room
-pub room_left : (meaning : Meaning) (sizes : MapSizes) (budget : ℕ) (before now : PassView) (calls : List Call) (answers : List Answer)
-    → AnswersCalls meaning sizes budget before calls answers now → before.room ≤ now.room + length calls
+pub room_left : (meaning : Meaning) (sizes : MapSizes) (budget : ℕ) (before now : PassView) (calls : List Call)
+    (answers : List Answer) → AnswersCalls meaning sizes budget before calls answers now → before.room ≤ now.room + length calls
 room_left meaning sizes budget before now calls answers none = omega arith
 room_left meaning sizes budget before now calls answers (more cs given then_at _ call answer ran made) =
     omega (arith, made.grew.room, room_left meaning sizes budget before then_at cs given ran, length-append cs (call ∷ []))
 
-pub steps_grown : (meaning : Meaning) (sizes : MapSizes) (budget : ℕ) (before now : PassView) (calls : List Call) (answers : List Answer)
-    → AnswersCalls meaning sizes budget before calls answers now → IsPrefix before.steps now.steps
+pub steps_grown : (meaning : Meaning) (sizes : MapSizes) (budget : ℕ) (before now : PassView) (calls : List Call)
+    (answers : List Answer) → AnswersCalls meaning sizes budget before calls answers now → IsPrefix before.steps now.steps
 steps_grown meaning sizes budget before now calls answers none = IsPrefix-refl before.steps
 steps_grown meaning sizes budget before now calls answers (more cs given then_at _ call answer ran made) =
-    IsPrefix-trans before.steps then_at.steps now.steps (steps_grown meaning sizes budget before then_at cs given ran) made.grew.steps
+    IsPrefix-trans before.steps then_at.steps now.steps (steps_grown meaning sizes budget before then_at cs given ran)
+    made.grew.steps
 
-pub seen_grown : (meaning : Meaning) (sizes : MapSizes) (budget : ℕ) (before now : PassView) (calls : List Call) (answers : List Answer)
-    → AnswersCalls meaning sizes budget before calls answers now → IsPrefix before.seen now.seen
+pub seen_grown : (meaning : Meaning) (sizes : MapSizes) (budget : ℕ) (before now : PassView) (calls : List Call)
+    (answers : List Answer) → AnswersCalls meaning sizes budget before calls answers now → IsPrefix before.seen now.seen
 seen_grown meaning sizes budget before now calls answers none = IsPrefix-refl before.seen
 seen_grown meaning sizes budget before now calls answers (more cs given then_at _ call answer ran made) =
     IsPrefix-trans before.seen then_at.seen now.seen (seen_grown meaning sizes budget before then_at cs given ran) made.grew.seen
-
--- the list that stood before the calls stands after them
-pub stands_after : (meaning : Meaning) (sizes : MapSizes) (budget : ℕ) (before now : PassView) (calls : List Call) (answers : List Answer)
-    → AnswersCalls meaning sizes budget before calls answers now → StandsIn before → StandsIn now
-stands_after meaning sizes budget before now calls answers none stands = stands
-stands_after meaning sizes budget before now calls answers (more cs given then_at _ call answer ran made) stands = made.stands
 
 said_calls-push : (calls : List Call) (answers : List Answer) (call : Call) (answer : Answer) → length answers ≡ length calls
     → said_calls (calls ++ call ∷ []) (answers ++ answer ∷ []) ≡ said_calls calls answers ++ said_calls (call ∷ []) (answer ∷ [])
@@ -81,11 +71,12 @@ mine_step : (meaning : Meaning) (sizes : MapSizes) (call : Call) (before now : P
 mine_step meaning sizes call before now (Said r) says =
     ap (map said_call) says.mine ∙ map-append said_call before.mine _
 mine_step meaning sizes call before now Full says = ap (map said_call) says.mine ∙ sym (append-nil (map said_call before.mine))
-mine_step meaning sizes call before now (Lost t) says = ap (map said_call) says.mine ∙ sym (append-nil (map said_call before.mine))
+mine_step meaning sizes call before now (Lost t) says =
+    ap (map said_call) says.mine ∙ sym (append-nil (map said_call before.mine))
 
 -- The list of placed calls grew by exactly those that were answered by a reply, in order.
-pub mine_grown : (meaning : Meaning) (sizes : MapSizes) (budget : ℕ) (before now : PassView) (calls : List Call) (answers : List Answer)
-    → AnswersCalls meaning sizes budget before calls answers now → MineGrew calls answers before now
+pub mine_grown : (meaning : Meaning) (sizes : MapSizes) (budget : ℕ) (before now : PassView) (calls : List Call)
+    (answers : List Answer) → AnswersCalls meaning sizes budget before calls answers now → MineGrew calls answers before now
 mine_grown meaning sizes budget before now calls answers none = sym (append-nil (map said_call before.mine))
 mine_grown meaning sizes budget before now calls answers (more cs given then_at _ call answer ran made) =
     let ih = mine_grown meaning sizes budget before then_at cs given ran in
@@ -100,6 +91,7 @@ inserts-push [] call = omega arith
 inserts-push (Get k ∷ calls) call = inserts-push calls call
 inserts-push (Insert k v ∷ calls) call = omega (arith, inserts-push calls call)
 inserts-push (Remove k ∷ calls) call = inserts-push calls call
+inserts-push (Cut k v ∷ calls) call = inserts-push calls call
 
 -- one call spends no more than an insert needs
 free_step : (meaning : Meaning) (sizes : MapSizes) (call : Call) (before now : PassView) (rest : ℕ)
@@ -108,16 +100,17 @@ free_step : (meaning : Meaning) (sizes : MapSizes) (call : Call) (before now : P
 free_step meaning sizes (Get k) before now rest purse enough = omega (arith, enough, ap length purse.free)
 free_step meaning sizes (Insert k v) before now rest purse enough = omega (arith, enough, purse.kept)
 free_step meaning sizes (Remove k) before now rest purse enough = omega (arith, enough, purse.kept)
+free_step meaning sizes (Cut k v) before now rest purse enough = omega (arith, enough, purse.kept)
 
-pub share_kept : (meaning : Meaning) (sizes : MapSizes) (budget : ℕ) (before now : PassView) (calls : List Call) (answers : List Answer)
-    → AnswersCalls meaning sizes budget before calls answers now → now.share ≡ before.share
+pub share_kept : (meaning : Meaning) (sizes : MapSizes) (budget : ℕ) (before now : PassView) (calls : List Call)
+    (answers : List Answer) → AnswersCalls meaning sizes budget before calls answers now → now.share ≡ before.share
 share_kept meaning sizes budget before now calls answers none = refl
 share_kept meaning sizes budget before now calls answers (more cs given then_at _ call answer ran made) =
     made.grew.share ∙ share_kept meaning sizes budget before then_at cs given ran
 
 -- what is left of the share, with what the inserts may have spent, is the whole share
-pub free_left : (meaning : Meaning) (sizes : MapSizes) (budget : ℕ) (before now : PassView) (calls : List Call) (answers : List Answer)
-    → AnswersCalls meaning sizes budget before calls answers now → length before.free ≡ before.share
+pub free_left : (meaning : Meaning) (sizes : MapSizes) (budget : ℕ) (before now : PassView) (calls : List Call)
+    (answers : List Answer) → AnswersCalls meaning sizes budget before calls answers now → length before.free ≡ before.share
     → before.share ≤ length now.free + meaning.need * inserts calls
 free_left meaning sizes budget before now calls answers none whole = omega (arith, whole)
 free_left meaning sizes budget before now calls answers (more cs given then_at _ call answer ran made) whole =
@@ -129,8 +122,8 @@ free_left meaning sizes budget before now calls answers (more cs given then_at _
     omega (arith, step, share, spent)
 
 -- An insert that answers full had too few free numbers; a pass that has enough for all its inserts never gives that answer.
-pub never_full : (meaning : Meaning) (sizes : MapSizes) (budget : ℕ) (before now : PassView) (calls : List Call) (answers : List Answer)
-    → AnswersCalls meaning sizes budget before calls answers now → length before.free ≡ before.share
+pub never_full : (meaning : Meaning) (sizes : MapSizes) (budget : ℕ) (before now : PassView) (calls : List Call)
+    (answers : List Answer) → AnswersCalls meaning sizes budget before calls answers now → length before.free ≡ before.share
     → meaning.need * inserts calls ≤ before.share → AtEach answers (λ k a. a ≡ Full → ⊥)
 never_full meaning sizes budget before now calls answers none whole enough k a at is = absurd cc
 never_full meaning sizes budget before now calls answers (more cs given then_at _ call answer ran made) whole enough k a at is =
@@ -149,6 +142,7 @@ never_full meaning sizes budget before now calls answers (more cs given then_at 
     last (Insert i v) Full says free e = omega (arith, says.short, free)
     last (Get i) Full says free e = let same = says.inserts.2 in cc
     last (Remove i) Full says free e = let same = says.inserts.2 in cc
+    last (Cut i v) Full says free e = let same = says.inserts.2 in cc
     last c (Said r) says free e = cc
     last c (Lost t) says free e = cc
 
@@ -159,8 +153,9 @@ no_loss sizes call budget before now Full turns cause e = cc
 no_loss sizes call budget before now (Lost t) turns cause e = cause.answers
 
 -- No call of the plain map is ever lost.
-pub plain_never_lost : (sizes : MapSizes) (budget : ℕ) (before now : PassView) (calls : List Call) (answers : List Answer)
-    → AnswersCalls plain_meaning sizes budget before calls answers now → AtEach answers (λ k a. (turns : ℕ) → a ≡ Lost turns → ⊥)
+pub plain_never_lost : (sizes : MapSizes) (budget : ℕ) (before now : PassView) (calls : List Call)
+    (answers : List Answer) → AnswersCalls plain_meaning sizes budget before calls answers now
+    → AtEach answers (λ k a. (turns : ℕ) → a ≡ Lost turns → ⊥)
 plain_never_lost sizes budget before now calls answers none k a at turns is = absurd cc
 plain_never_lost sizes budget before now calls answers (more cs given then_at _ call answer ran made) k a at turns is =
     ⊎_elim

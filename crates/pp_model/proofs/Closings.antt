@@ -3,7 +3,7 @@ use Rattle.std.proofs.Common.{◌≡◌, ℕ, zero, suc, ◌+◌, ◌<◌, List,
 use Rattle.std.specs.Prelude.{slice_get}
 use Rattle.pp_model.specs.declared.Pair.{Pair}
 use Rattle.pp_model.specs.Lists.{AtEach, RisesFrom}
-use Rattle.pp_model.specs.History.{Stands}
+use Rattle.pp_model.specs.History.{finite_map, Stands}
 use Rattle.pp_model.specs.Pass.{PassView, MapSizes, Meaning, RunView}
 use Rattle.pp_model.specs.MapCalls.{IsClosing, caller_run}
 use Rattle.pp_model.specs.Linearization.{CallerList, caller_list, callers_of, IsRecordedRun, IsHistory}
@@ -13,7 +13,8 @@ use Rattle.pp_model.proofs.CallersOrder.{is_history}
 abbrev pub lists_of : List PassView → List CallerList
 lists_of passes = map caller_list (map caller_run passes)
 
-callers_rise : (low : ℕ) (passes : List PassView) → AtEach passes (λ k p. p.caller ≡ low + k) → RisesFrom low (callers_of (lists_of passes))
+callers_rise : (low : ℕ) (passes : List PassView) → AtEach passes (λ k p. p.caller ≡ low + k)
+    → RisesFrom low (callers_of (lists_of passes))
 callers_rise low [] callers = tt
 callers_rise low (p ∷ passes) callers =
     let here : p.caller ≡ low + 0 = callers 0 p refl in
@@ -54,4 +55,4 @@ module _ (meaning : Meaning) (sizes : MapSizes) (passes : List PassView) (conten
 
   -- The history of a run that was closed is legal.
   pub closing_history : IsHistory run.log (map caller_list run.callers)
-  closing_history = is_history run.log (map caller_list run.callers) closing_recorded
+  closing_history = is_history finite_map run.log (map caller_list run.callers) closing_recorded

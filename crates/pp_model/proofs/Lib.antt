@@ -1,7 +1,11 @@
+pub mod Positions
 pub mod Maps
+pub mod Logs
 pub mod Histories
 pub mod PlainPasses
 pub mod Chains
 pub mod Linearizations
 pub mod CallersOrder
 pub mod Closings
+pub mod Finding
+pub mod Growing

@@ -1,5 +1,6 @@
 -- Lemmas on finite maps with rising keys.
 use Rattle.std.proofs.Common.{◌≡◌, ℕ, zero, suc, ◌+◌, ◌<◌, ◌≤◌, List, [], ◌∷◌, length, get_or, Some, None, Result, Ok, Err}
+use Rattle.std.proofs.Common.{Bool, cond}
 use Rattle.std.proofs.Common.{IfOk, IfErr, false, true, eqb, ltb, ⊎_elim, refl, sym, ap, ◌∙◌, arith, ne_eqb, eq-eqb, lt-ltb, le-ltb}
 use Rattle.std.specs.Prelude.{slice_get, insert, remove}
 use Rattle.std.specs.List.Sorted.{IsSearchInRange, IsBinarySearchResult, IsNonDecreasingBy}
@@ -9,9 +10,13 @@ use Rattle.std.proofs.lemmas.List.Sorted.{IsNonDecreasingBy-from_default}
 use Rattle.std.proofs.lemmas.Option.{slice_get-get_or, slice_get_within, get_or_from_slice_get}
 use Rattle.std.proofs.lemmas.Bool.{cases_eq, cases_lt, eqb-false}
 use Rattle.std.proofs.lemmas.Bool.Decides.{nat_tests}
+use Rattle.pp_model.specs.declared.Call.{Call}
+use Rattle.pp_model.specs.declared.Call.TheVariants.{Cut}
+use Rattle.pp_model.specs.declared.Reply.TheVariants.{Took, Other}
 use Rattle.pp_model.specs.declared.Pair.{Pair}
 use Rattle.pp_model.specs.Lists.{RisesFrom}
 use Rattle.pp_model.specs.FiniteMap.{pair, find, put, drop_key, keys_of, KeysRise, HasKeyAt, LacksKeyAt}
+use Rattle.pp_model.specs.Calls.{reply, reply_at, map_after, map_after_at, Takes, removes, cuts}
 
 -- a list that rises from b on rises from any number below it on
 pub RisesFrom-lower : (a b : ℕ) (ns : List ℕ) → a ≤ b → RisesFrom b ns → RisesFrom a ns
@@ -105,7 +110,8 @@ keys_rise (p ∷ m) low (suc i) (suc j) d r lt l = keys_rise m (p.key + 1) i j d
 
 -- A binary search by key ends at the key, or at the place where it would stand.
 pub searched : (m : List Pair) (k : ℕ) (r : Result ℕ ℕ) → KeysRise m → IsSearchInRange r (length m)
-    → IsBinarySearchResult (λ p. nat_cmp p.key k) m r → record { found : IfOk r (HasKeyAt m k); absent : IfErr r (LacksKeyAt m k) }
+    → IsBinarySearchResult (λ p. nat_cmp p.key k) m r
+    → record { found : IfOk r (HasKeyAt m k); absent : IfErr r (LacksKeyAt m k) }
 searched m k (Ok at) rises in_range equal =
     let d = pair 0 0 in
     let same : (get_or m at d).key ≡ k = ranked _ k _ (sym (equal d)) in
@@ -138,3 +144,25 @@ searched m k (Err at) rises in_range parted =
         (λ (ge : j ≤ i). let same : i ≡ j = omega arith in rw same (omega arith))
         (cases_lt i j) in
         grind (arith, nat_tests)
+
+-- the pair that was read where the key stands has the key's value
+pub read_at : (m : List Pair) (k i : ℕ) (p : Pair) → HasKeyAt m k i → p ≡ get_or m i p → find m k ≡ Some p.value
+read_at m k i p has is = has.found p (slice_get-get_or m i p has.within ∙ ap (λ (q : Pair). Some q) (sym is))
+
+-- a cut takes the value that it asks for
+pub cut_value : (k v j w : ℕ) → Takes (Cut k v) j w → w ≡ v
+cut_value k v j w (cuts _ _) = refl
+
+-- a cut of another value leaves it
+pub cut_other : (m : List Pair) (k v w : ℕ) → find m k ≡ Some w → (w ≡ v → ⊥) → reply m (Cut k v) ≡ Other w
+cut_other m k v w found differ = ap (reply_at (Cut k v)) found ∙ ap (λ (b : Bool). cond b (Took w) (Other w)) (ne_eqb w v differ)
+
+-- a call that takes the pair of its key replies so
+pub takes_reply : (m : List Pair) (call : Call) (k w : ℕ) → Takes call k w → find m k ≡ Some w → reply m call ≡ Took w
+takes_reply m call k w (removes _ _) found = ap (reply_at call) found
+takes_reply m call k w (cuts _ _) found = ap (reply_at call) found ∙ ap (λ (b : Bool). cond b (Took w) (Other w)) (eq-eqb w w refl)
+
+-- and leaves the others
+pub takes_after : (m : List Pair) (call : Call) (k w : ℕ) → Takes call k w → find m k ≡ Some w → map_after m call ≡ drop_key m k
+takes_after m call k w (removes _ _) found = ap (map_after_at m call) found
+takes_after m call k w (cuts _ _) found = ap (map_after_at m call) found ∙ ap (λ (b : Bool). cond b (drop_key m k) m) (eq-eqb w w refl)

@@ -5,22 +5,23 @@ use Rattle.std.proofs.Common.{append-nil, take-append-drop, eq-eqb, ne_eqb}
 use Rattle.std.specs.Prelude.{slice_get}
 use Rattle.std.proofs.lemmas.Bool.{cases_Bool, cases_eq, cases_lt, true≢false}
 use Rattle.pp_model.specs.declared.Call.{Call}
-use Rattle.pp_model.specs.declared.Call.TheVariants.{Get, Insert, Remove}
+use Rattle.pp_model.specs.declared.Call.TheVariants.{Get, Insert, Remove, Cut}
 use Rattle.pp_model.specs.declared.Reply.{Reply}
-use Rattle.pp_model.specs.declared.Reply.TheVariants.{Value, Absent, Added, Held, Took}
+use Rattle.pp_model.specs.declared.Reply.TheVariants.{Value, Absent, Added, Held, Took, Other}
+use Rattle.pp_model.specs.declared.Answer.{Answer}
 use Rattle.pp_model.specs.declared.Answer.TheVariants.{Said, Full}
 use Rattle.pp_model.specs.declared.Change.{Change}
 use Rattle.pp_model.specs.declared.Placed.{Placed}
 use Rattle.pp_model.specs.declared.Pair.{Pair}
 use Rattle.pp_model.specs.Lists.{upto, times, RisesFrom, IsPrefix, AtEach}
 use Rattle.pp_model.specs.FiniteMap.{find, KeysRise}
-use Rattle.pp_model.specs.Calls.{reply, map_after, changes}
+use Rattle.pp_model.specs.Calls.{reply, map_after, changes, Takes, removes, cuts}
 use Rattle.pp_model.specs.History.{contents_of, Sound, change_of, FitsUnchanged, Stands}
-use Rattle.pp_model.specs.Pass.{CallerRun}
-use Rattle.pp_model.specs.MapCalls.{Grew, LeavesPurse, Tidied, IsClosing, AreNumbers}
+use Rattle.pp_model.specs.Pass.{PassView, MapSizes, CallerRun, steps_of}
+use Rattle.pp_model.specs.MapCalls.{Grew, AnswersCall, Learns, LeavesPurse, Tidied, IsClosing, AreNumbers}
 use Rattle.pp_model.specs.MapCalls.{caller_run, placed}
 use Rattle.pp_model.specs.Plain.{changes_from, log_of, plain_pass, PlainHolds, plain_meaning, plain_sizes, PlainAnswers, IsPlainAnswer}
-use Rattle.pp_model.specs.Plain.{plain_run}
+use Rattle.pp_model.specs.Plain.{plain_run, plain_note, PlainLearnable, PlainBelongs}
 use Rattle.pp_model.proofs.Histories.{stands_unchanged, stands_change, sound_change, contents_push, after_all, fits_within}
 
 pub changes_from-push : (n : ℕ) (mine : List Placed) (s : Placed)
@@ -146,7 +147,8 @@ module _ (records calls : ℕ) (pairs : List Pair) (mine : List Placed) (holds :
       }
 
   -- a call that changed the pairs
-  pub holds_change : (pairs' : List Pair) → changes r ≡ true → pairs' ≡ map_after pairs call → KeysRise pairs' → length pairs' ≤ records
+  pub holds_change : (pairs' : List Pair) → changes r ≡ true → pairs' ≡ map_after pairs call → KeysRise pairs'
+      → length pairs' ≤ records
       → PlainHolds records calls pairs' (mine ++ placed call r (length (log_of mine) + 1) ∷ [])
   holds_change pairs' changed is rises fit =
       let s = placed call r (length (log_of mine) + 1) in
@@ -184,6 +186,7 @@ plain_purse : (records calls : ℕ) (call : Call) (pairs : List Pair) (mine mine
 plain_purse records calls (Get k) pairs mine mine' = record { wrote = refl; free = refl; retired = refl; chains = refl }
 plain_purse records calls (Insert k v) pairs mine mine' = plain_tidied records calls calls 1 pairs pairs mine mine' (omega arith)
 plain_purse records calls (Remove k) pairs mine mine' = plain_tidied records calls calls 0 pairs pairs mine mine' (omega arith)
+plain_purse records calls (Cut k v) pairs mine mine' = plain_tidied records calls calls 0 pairs pairs mine mine' (omega arith)
 
 plain_answers_unchanged : (r : Reply) (records pairs : ℕ) → changes r ≡ false → PlainAnswers records pairs (Said r)
 plain_answers_unchanged (Value v) records pairs none = tt
@@ -191,10 +194,12 @@ plain_answers_unchanged Absent records pairs none = tt
 plain_answers_unchanged Added records pairs none = absurd (true≢false none)
 plain_answers_unchanged (Held v) records pairs none = tt
 plain_answers_unchanged (Took v) records pairs none = tt
+plain_answers_unchanged (Other v) records pairs none = tt
 
 plain_grew : (records calls : ℕ) (pairs pairs' : List Pair) (mine mine' : List Placed) → IsPrefix (log_of mine) (log_of mine')
-    → length mine' ≤ length mine + 1 → Grew (plain_pass records calls pairs mine) (plain_pass records calls pairs' mine')
-plain_grew records calls pairs pairs' mine mine' seen le = record {
+    → IsPrefix mine mine' → length mine' ≤ length mine + 1
+    → Grew (plain_pass records calls pairs mine) (plain_pass records calls pairs' mine')
+plain_grew records calls pairs pairs' mine mine' seen entered le = record {
   caller = refl;
   share = refl;
   seen = seen;
@@ -202,7 +207,10 @@ plain_grew records calls pairs pairs' mine mine' seen le = record {
   order = ([], refl);
   wrote = omega arith;
   room = omega arith;
+  own_steps = refl;
   seen_by = λ some. absurd (omega arith);
+  saw = λ k s none. absurd cc;
+  mine = entered;
 }
 
 module _ (records calls : ℕ) (pairs : List Pair) (mine : List Placed) (holds : PlainHolds records calls pairs mine)
@@ -216,7 +224,7 @@ module _ (records calls : ℕ) (pairs : List Pair) (mine : List Placed) (holds :
       let log = log_unchanged mine s none in
       let holds' = holds_unchanged records calls pairs mine holds room call r right none in
       record {
-        grew = plain_grew records calls pairs pairs mine mine' ([], log ∙ sym (append-nil (log_of mine)))
+        grew = plain_grew records calls pairs pairs mine mine' ([], log ∙ sym (append-nil (log_of mine))) (s ∷ [], refl)
             (omega (arith, length-append mine (s ∷ [])));
         says = record {
           place = length (log_of mine);
@@ -232,36 +240,40 @@ module _ (records calls : ℕ) (pairs : List Pair) (mine : List Placed) (holds :
         cause = record { no_step = refl; seen = refl; answers = plain_answers_unchanged r records _ none };
         purse = plain_purse records calls call pairs mine mine';
         full = tt;
+        stepped = omega arith;
       }
 
 -- what a change leaves: an insert has one pair more, a remove one less
 pub data IsPlainChange (pairs : List Pair) (records : ℕ) : Call → Reply → List Pair → Type 0 where
   adds : (k v : ℕ) (pairs' : List Pair) → length pairs < records → length pairs' ≡ length pairs + 1
       → IsPlainChange pairs records (Insert k v) Added pairs'
-  takes : (k v : ℕ) (pairs' : List Pair) → length pairs' + 1 ≡ length pairs → IsPlainChange pairs records (Remove k) (Took v) pairs'
+  takes : (call : Call) (k v : ℕ) (pairs' : List Pair) → Takes call k v → length pairs' + 1 ≡ length pairs
+      → IsPlainChange pairs records call (Took v) pairs'
 
 change_purse : (records calls : ℕ) (call : Call) (r : Reply) (pairs pairs' : List Pair) (mine mine' : List Placed)
     → IsPlainChange pairs records call r pairs'
     → LeavesPurse plain_meaning (plain_sizes records) call (plain_pass records calls pairs mine) (plain_pass records calls pairs' mine')
 change_purse records calls call r pairs pairs' mine mine' (adds k v _ few more) =
     plain_tidied records calls calls 1 pairs pairs' mine mine' (omega arith)
-change_purse records calls call r pairs pairs' mine mine' (takes k v _ less) =
+change_purse records calls call r pairs pairs' mine mine' (takes _ k v _ (removes _ _) less) =
+    plain_tidied records calls calls 0 pairs pairs' mine mine' (omega arith)
+change_purse records calls call r pairs pairs' mine mine' (takes _ k v _ (cuts _ _) less) =
     plain_tidied records calls calls 0 pairs pairs' mine mine' (omega arith)
 
 change_answers : (records : ℕ) (call : Call) (r : Reply) (pairs pairs' contents : List Pair) → pairs ≡ contents
     → IsPlainChange pairs records call r pairs' → PlainAnswers records (length contents) (Said r)
 change_answers records call r pairs pairs' contents is (adds k v _ few more) = omega (arith, ap length is)
-change_answers records call r pairs pairs' contents is (takes k v _ less) = tt
+change_answers records call r pairs pairs' contents is (takes _ k v _ how less) = tt
 
 change_changes : (records : ℕ) (call : Call) (r : Reply) (pairs pairs' : List Pair) → IsPlainChange pairs records call r pairs'
     → changes r ≡ true
 change_changes records call r pairs pairs' (adds k v _ few more) = refl
-change_changes records call r pairs pairs' (takes k v _ less) = refl
+change_changes records call r pairs pairs' (takes _ k v _ how less) = refl
 
 change_fits : (records : ℕ) (call : Call) (r : Reply) (pairs pairs' : List Pair) → length pairs ≤ records
     → IsPlainChange pairs records call r pairs' → length pairs' ≤ records
 change_fits records call r pairs pairs' fit (adds k v _ few more) = omega arith
-change_fits records call r pairs pairs' fit (takes k v _ less) = omega arith
+change_fits records call r pairs pairs' fit (takes _ k v _ how less) = omega arith
 
 module _ (records calls : ℕ) (pairs : List Pair) (mine : List Placed) (holds : PlainHolds records calls pairs mine)
     (room : length mine < calls) (call : Call) (r : Reply) (right : reply pairs call ≡ r)
@@ -281,7 +293,8 @@ module _ (records calls : ℕ) (pairs : List Pair) (mine : List Placed) (holds :
       let changed = change_changes records call r pairs pairs' change in
       let log = log_change mine s changed in
       record {
-        grew = plain_grew records calls pairs pairs' mine mine' (_, log) (omega (arith, length-append mine (s ∷ [])));
+        grew = plain_grew records calls pairs pairs' mine mine' (_, log) (s ∷ [], refl)
+            (omega (arith, length-append mine (s ∷ [])));
         says = record {
           place = length (log_of mine) + 1;
           mine = refl;
@@ -301,6 +314,7 @@ module _ (records calls : ℕ) (pairs : List Pair) (mine : List Placed) (holds :
         };
         purse = change_purse records calls call r pairs pairs' mine mine' change;
         full = tt;
+        stepped = omega arith;
       }
 
 -- the same of a pass that counts its changes
@@ -326,6 +340,15 @@ module _ (records calls counted : ℕ) (pairs : List Pair) (mine : List Placed) 
   answers_entered = subst (λ ms. IsPlainAnswer call (plain_pass records calls pairs mine) (plain_pass records calls pairs' ms) (Said r))
       (sym entered_at) (answers_changed records calls pairs mine holds room call r right pairs' change is rises)
 
+-- a pass that made a call is still that of the map
+pub plain_belongs : (records budget : ℕ) (sizes : MapSizes) (call : Call) (before now : PassView) (answer : Answer)
+    → PlainBelongs records before → AnswersCall plain_meaning sizes call budget before now answer → PlainBelongs records now
+plain_belongs records budget sizes call before now answer belongs made = record {
+  share = made.grew.share ∙ belongs.share;
+  caller = made.grew.caller ∙ belongs.caller;
+  stands = made.stands;
+}
+
 -- An insert of an absent key into a full map changes nothing.
 pub answers_full : (records calls : ℕ) (pairs : List Pair) (mine : List Placed) → PlainHolds records calls pairs mine → (k v : ℕ)
     → find pairs k ≡ None → length pairs ≡ records
@@ -333,7 +356,8 @@ pub answers_full : (records calls : ℕ) (pairs : List Pair) (mine : List Placed
 answers_full records calls pairs mine holds k v absent all budget left =
     let none : records - length pairs ≡ 0 = omega arith in
     record {
-      grew = plain_grew records calls pairs pairs mine mine ([], sym (append-nil (log_of mine))) (omega arith);
+      grew = plain_grew records calls pairs pairs mine mine ([], sym (append-nil (log_of mine))) ([], sym (append-nil mine))
+          (omega arith);
       says = record {
         mine = refl;
         inserts = (k, v, refl);
@@ -347,14 +371,20 @@ answers_full records calls pairs mine holds k v absent all budget left =
       lost = left;
       cause = record { no_step = refl; seen = refl; answers = ap length (sym holds.contents) ∙ all };
       purse = plain_purse records calls (Insert k v) pairs mine mine;
-      full = record { retired = omega arith; free = full_prefix (upto (length pairs + 1) (records - length pairs)) _ };
+      full = record {
+        retired = omega arith;
+        short = omega (arith, length-upto (length pairs + 1) (records - length pairs));
+        free = full_prefix (upto (length pairs + 1) (records - length pairs)) _;
+      };
+      stepped = omega arith;
     }
   where
     full_prefix : (free : List ℕ) (n : ℕ) → IsPrefix (take n free) free
     full_prefix free n = (drop n free, sym (take-append-drop n free))
 
 -- What stands after a plain map was closed over its one pass.
-pub plain_closing : (records calls : ℕ) (pairs : List Pair) (mine : List Placed) (free : List ℕ) → PlainHolds records calls pairs mine
+pub plain_closing : (records calls : ℕ) (pairs : List Pair) (mine : List Placed) (free : List ℕ)
+    → PlainHolds records calls pairs mine
     → free ≡ upto (length pairs + 1) (records - length pairs)
     → IsClosing plain_meaning (plain_sizes records) (plain_pass records calls pairs mine ∷ []) pairs free (plain_run records mine)
 plain_closing records calls pairs mine free holds is =
@@ -370,9 +400,11 @@ plain_closing records calls pairs mine free holds is =
       stand = only (λ p. Stands (log_of mine) p.caller p.mine) pass holds.stands;
       seen = only (λ p. IsPrefix p.seen (log_of mine)) pass ([], sym (append-nil (log_of mine)));
       order = only (λ p. IsPrefix p.order []) pass ([], refl);
+      own_order = only (λ p. p.steps ≡ steps_of p.caller p.order) pass refl;
       saw_all = record { position = 0; last = pass; is_one = refl; seen = refl; order = refl };
       ordered = record {
         execution = tt;
+        own_passes = λ k e none. absurd cc;
         own_changes = λ k e none. absurd cc;
         logged = λ some. absurd (omega arith);
         own_steps = only (λ (r : CallerRun). r.steps ≡ []) (caller_run pass) refl;
@@ -385,3 +417,16 @@ plain_closing records calls pairs mine free holds is =
     only : {A : Type 0} (P : A → Type 0) (x : A) → P x → AtEach (x ∷ []) (λ k y. P y)
     only P x px zero y e = let is : x ≡ y = cc in subst P is px
     only P x px (suc k) y e = absurd cc
+
+-- Its own note tells a pass nothing new.
+pub plain_learns : (records calls : ℕ) (pairs : List Pair) (mine : List Placed) (note : ℕ)
+    → PlainLearnable (plain_pass records calls pairs mine) note
+    → Learns (plain_note note) (plain_pass records calls pairs mine) (plain_pass records calls pairs mine)
+plain_learns records calls pairs mine note learnable = record {
+  same = refl;
+  seen = ([], sym (append-nil (log_of mine)));
+  order = ([], refl);
+  noted_seen = learnable.seen;
+  noted_order = omega arith;
+  own_steps = refl;
+}

@@ -1,9 +1,12 @@
 pub mod Lists
 pub mod FiniteMap
 pub mod Calls
+pub mod MapLaws
+pub mod Objects
 pub mod History
 pub mod Pass
 pub mod MapCalls
 pub mod Linearization
 pub mod Plain
 pub mod PlainModel
+pub mod PlainLaws

@@ -1,29 +1,32 @@
 -- The clauses of a map's calls, by name.
-use Rattle.std.specs.Prelude.{◌≡◌, ℕ, ◌+◌, ◌-◌, ◌*◌, ◌^◌, ◌<◌, ◌≤◌, ◌⊎◌, min, true, false, List, [], ◌∷◌, ◌++◌, length, map, take}
-use Rattle.std.specs.Prelude.{Option, Some, None, Result, Ok, Err, slice_get}
+use Rattle.std.specs.Prelude.{◌≡◌, ℕ, ◌+◌, ◌-◌, ◌*◌, ◌^◌, ◌<◌, ◌≤◌, ◌⊎◌, min, Bool, true, false, List, [], ◌∷◌, ◌++◌}
+use Rattle.std.specs.Prelude.{length, map, take, Option, Some, None, Result, Ok, Err, slice_get}
 use Rattle.pp_model.specs.declared.Call.{Call}
-use Rattle.pp_model.specs.declared.Call.TheVariants.{Get, Insert, Remove}
+use Rattle.pp_model.specs.declared.Call.TheVariants.{Get, Insert, Remove, Cut}
 use Rattle.pp_model.specs.declared.Reply.{Reply}
-use Rattle.pp_model.specs.declared.Reply.TheVariants.{Value, Absent, Added, Held, Took}
+use Rattle.pp_model.specs.declared.Reply.TheVariants.{Value, Absent, Added, Held, Took, Other}
 use Rattle.pp_model.specs.declared.Answer.{Answer}
 use Rattle.pp_model.specs.declared.Answer.TheVariants.{Said, Full, Lost}
 use Rattle.pp_model.specs.declared.Lost.{Lost as LostTurns}
 use Rattle.pp_model.specs.declared.Inserted.{Inserted}
 use Rattle.pp_model.specs.declared.Inserted.TheVariants as inserted
+use Rattle.pp_model.specs.declared.Cut.{Cut as CutReply}
+use Rattle.pp_model.specs.declared.Cut.TheVariants as cut
 use Rattle.pp_model.specs.declared.InsertFault.{InsertFault}
 use Rattle.pp_model.specs.declared.InsertFault.TheVariants as fault
 use Rattle.pp_model.specs.declared.Turned.{Turned}
 use Rattle.pp_model.specs.declared.Turned.TheVariants.{On, Done}
+use Rattle.pp_model.specs.declared.Change.{Change}
 use Rattle.pp_model.specs.declared.Placed.{Placed}
 use Rattle.pp_model.specs.declared.Pair.{Pair}
 use Rattle.pp_model.specs.Lists.{AtEach, IsPrefix, RisesFrom, times}
 use Rattle.pp_model.specs.FiniteMap.{find, KeysRise}
 use Rattle.pp_model.specs.Calls.{key_of, reply, changes}
 use Rattle.pp_model.specs.History.{after, contents_of, Sound, Stands}
-use Rattle.pp_model.specs.Pass.{PassView, GoingView, MapSizes, Meaning, CallerRun, RunView, IsExecution, replayed, changes_of}
-use Rattle.pp_model.specs.Pass.{steps_of, steps_since, start_of, seen_last}
+use Rattle.pp_model.specs.Pass.{PassView, GoingView, NoteView, MapSizes, OrderEntry, Meaning, CallerRun, RunView}
+use Rattle.pp_model.specs.Pass.{IsExecution, replayed, changes_of, steps_of, steps_since, start_of, seen_last}
 
--- the answers of the three calls, as one type
+-- the answers of the four calls, as one type
 abbrev pub get_answer : Result (Option ℕ) LostTurns → Answer
 get_answer (Ok None) = Said Absent
 get_answer (Ok (Some v)) = Said (Value v)
@@ -40,6 +43,12 @@ remove_answer (Ok None) = Said Absent
 remove_answer (Ok (Some v)) = Said (Took v)
 remove_answer (Err e) = Lost e.turns
 
+abbrev pub cut_answer : ℕ → Result CutReply LostTurns → Answer
+cut_answer value (Ok cut.Took) = Said (Took value)
+cut_answer value (Ok (cut.Other v)) = Said (Other v)
+cut_answer value (Ok cut.Absent) = Said Absent
+cut_answer value (Err e) = Lost e.turns
+
 -- a call may be made
 pub record MayCall (call : Call) (budget : ℕ) (pass : PassView) : Type 0 where
   pub key : key_of call ≤ 2 ^ 64 - 4
@@ -55,8 +64,14 @@ pub record Grew (before now : PassView) : Type 0 where
   pub order : IsPrefix before.order now.order
   pub wrote : before.wrote ≤ now.wrote
   pub room : before.room ≤ now.room + 1
+  -- its steps are its own ones in the order that it has seen
+  pub own_steps : now.steps ≡ steps_of now.caller now.order
   -- where it made a step, it has seen what its last step saw
   pub seen_by : (0 < length (steps_since before now)) → seen_last 0 (steps_since before now) ≡ length now.seen
+  -- each step that it made saw at least what it had seen before, and no more than it has seen
+  pub saw : AtEach (steps_since before now) (λ k s. (length before.seen ≤ s.seen) × (s.seen ≤ length now.seen))
+  -- its placed calls stay, and new ones come after them
+  pub mine : IsPrefix before.mine now.mine
 
 -- a pass's placed calls stand in what it has seen
 abbrev pub StandsIn : PassView → Type 0
@@ -122,16 +137,25 @@ abbrev pub LeavesPurse : Meaning → MapSizes → Call → PassView → PassView
 LeavesPurse meaning sizes (Get k) before now = LeftAlone before now
 LeavesPurse meaning sizes (Insert k v) before now = Tidied meaning sizes meaning.need before now
 LeavesPurse meaning sizes (Remove k) before now = Tidied meaning sizes 0 before now
+LeavesPurse meaning sizes (Cut k v) before now = Tidied meaning sizes 0 before now
 
--- after a full answer few numbers are retired, and the free numbers of the share that there were are still there
+-- after a full answer few numbers are retired, the free numbers of the share that there were are still there, and they are again
+-- fewer than an insert needs
 pub record FullPurse (meaning : Meaning) (sizes : MapSizes) (before now : PassView) : Type 0 where
   pub retired : length now.retired ≤ meaning.hazards sizes
+  pub short : length now.free < meaning.need
   pub free : IsPrefix (take (min (length before.free) before.share) before.free) now.free
 
 abbrev pub LeavesFull : Meaning → MapSizes → PassView → PassView → Answer → Type 0
 LeavesFull meaning sizes before now Full = FullPurse meaning sizes before now
 LeavesFull meaning sizes before now (Said r) = Unit {0}
 LeavesFull meaning sizes before now (Lost turns) = Unit {0}
+
+-- As many records are attached as a map of the pairs has live ones that the pass has seen, where it has seen all steps: none of
+-- them is that of a removed pair.
+abbrev pub IsClean : Meaning → MapSizes → PassView → Type 0
+IsClean meaning sizes pass =
+    meaning.Attached sizes (replayed (meaning.opening sizes) pass.order) (meaning.live (length (contents_of pass.seen)))
 
 -- A call was made with this budget of lost turns, from its begin to this answer.
 pub record AnswersCall (meaning : Meaning) (sizes : MapSizes) (call : Call) (budget : ℕ) (before now : PassView)
@@ -143,6 +167,7 @@ pub record AnswersCall (meaning : Meaning) (sizes : MapSizes) (call : Call) (bud
   pub cause : meaning.Cause sizes call budget before now answer
   pub purse : LeavesPurse meaning sizes call before now
   pub full : LeavesFull meaning sizes before now answer
+  pub stepped : meaning.turn_steps ≤ length (steps_since before now)
 
 -- a call was begun
 pub record Begun (asked : Call) (races : ℕ) (going : GoingView) : Type 0 where
@@ -167,10 +192,72 @@ pub record SameCall (was now : GoingView) : Type 0 where
   pub few : now.kind ≤ 3
   pub high : now.upper ≤ 2 ^ 64
 
--- a going call's lost turns and its start are those of its steps
+-- a call has taken effect: its change was entered in the pass's list, with the reply that it will give
+pub record TookEffect (call : Call) (before now : PassView) : Type 0 where
+  pub said : Reply
+  pub changed : changes said ≡ true
+  pub entered : PlacesReply call said before now
+
+-- A going call's lost turns and its start are those of its steps. Its change stands in the pass's list exactly where it has
+-- taken effect.
 pub record Counted (meaning : Meaning) (sizes : MapSizes) (going : GoingView) (before now : PassView) : Type 0 where
   pub lost : going.lost ≡ meaning.lost sizes going.call (steps_since before now)
   pub start : going.start ≡ start_of before now
+  pub effect : going.struck ≡ true → TookEffect going.call before now
+  pub no_effect : going.struck ≡ false → now.mine ≡ before.mine
+
+-- A turn in which the call took effect: its change's place is above all that was seen before the turn.
+pub record Strikes (call : Call) (before now : PassView) : Type 0 where
+  pub said : Reply
+  pub place : ℕ
+  pub changed : changes said ≡ true
+  pub mine : now.mine ≡ before.mine ++ placed call said place ∷ []
+  pub above : length before.seen < place
+  pub within : place ≤ length now.seen
+
+-- one turn of a going call was made, whether it goes on or ended: what the pass keeps, what stays of the call, how many steps the
+-- pass made at least, and what it means that the call took effect in it
+pub record MakesTurn (meaning : Meaning) (was now : GoingView) (before left : PassView) : Type 0 where
+  pub grew : Grew before left
+  pub same : SameCall was now
+  pub stepped : meaning.turn_steps ≤ length (steps_since before left)
+  pub strikes : was.struck ≡ false → now.struck ≡ true → Strikes was.call before left
+
+-- an answer of a call that took effect
+abbrev pub took_effect : Answer → Bool
+took_effect (Said r) = changes r
+took_effect Full = false
+took_effect (Lost turns) = false
+
+-- a note says how much its pass has seen
+pub record Notes (pass : PassView) (note : NoteView) : Type 0 where
+  pub seen : note.seen ≡ length pass.seen
+  pub order : note.order ≡ length pass.order
+
+-- the pass with another part of the log and of the order seen
+abbrev pub seeing : List Change → List (OrderEntry Change) → PassView → PassView
+seeing seen order pass = record {
+  caller = pass.caller;
+  seen = seen;
+  mine = pass.mine;
+  steps = pass.steps;
+  order = order;
+  wrote = pass.wrote;
+  room = pass.room;
+  free = pass.free;
+  retired = pass.retired;
+  chains = pass.chains;
+  share = pass.share;
+}
+
+-- A pass learnt a note: it has seen what it had seen and at least as much as the note says, and nothing else of it changed.
+pub record Learns (note : NoteView) (before now : PassView) : Type 0 where
+  pub same : now ≡ seeing now.seen now.order before
+  pub seen : IsPrefix before.seen now.seen
+  pub order : IsPrefix before.order now.order
+  pub noted_seen : note.seen ≤ length now.seen
+  pub noted_order : note.order ≤ length now.order
+  pub own_steps : now.steps ≡ steps_of now.caller now.order
 
 abbrev pub IfOn : Turned → Type 0 → Type 0
 IfOn On P = P
@@ -191,12 +278,14 @@ pub record SawAll (passes : List PassView) (run : RunView) : Type 0 where
   pub seen : last.seen ≡ run.log
   pub order : last.order ≡ run.order
 
--- The order of a run's steps is an execution from the map's opening words. The changes of each step are its own pass's; where
--- there is a step, all changes of the log took effect at steps. Each caller's steps are its own entries.
+-- The order of a run's steps is an execution from the map's opening words. Each step was made by the pass of a caller, and its
+-- changes are that caller's; where turns make steps, all changes of the log took effect at steps. Each caller's steps are its own
+-- entries.
 pub record IsOrdered (meaning : Meaning) (run : RunView) : Type 0 where
   pub execution : IsExecution meaning.stores (meaning.opening run.sizes) 0 run.order
+  pub own_passes : AtEach run.order (λ k e. e.pass < length run.callers)
   pub own_changes : AtEach run.order (λ k e. AtEach e.changes (λ j c. c.caller ≡ e.pass))
-  pub logged : 0 < length run.order → changes_of run.order ≡ run.log
+  pub logged : 0 < meaning.turn_steps → changes_of run.order ≡ run.log
   pub own_steps : AtEach run.callers (λ k r. r.steps ≡ steps_of r.caller run.order)
 
 -- Live and free numbers together are 1 to the number of records, each once, and the free ones rise.
@@ -217,6 +306,7 @@ pub record IsClosing (meaning : Meaning) (sizes : MapSizes) (passes : List PassV
   pub stand : AtEach passes (λ k p. Stands run.log p.caller p.mine)
   pub seen : AtEach passes (λ k p. IsPrefix p.seen run.log)
   pub order : AtEach passes (λ k p. IsPrefix p.order run.order)
+  pub own_order : AtEach passes (λ k p. p.steps ≡ steps_of p.caller p.order)
   pub saw_all : SawAll passes run
   pub ordered : IsOrdered meaning run
   pub holds : meaning.Holds sizes (replayed (meaning.opening sizes) run.order) contents run.live

@@ -64,8 +64,9 @@ pub record IsFresh (pass : PassView) : Type 0 where
   pub retired : pass.retired ≡ []
   pub chains : pass.chains ≡ 0
 
--- a going call: its lost turns and its budget of them, how much of the log was seen at its first step, whether it has taken
--- effect, the kind of its next turn, and the keys that its walk has left, from lower up to upper
+-- A going call: its lost turns and its budget of them, how much of the log was seen at its first step, and whether it has taken
+-- effect. Each map says by itself what the kind of its next turn is, from 0 to 3, and which keys its walk has left, from lower up
+-- to upper: they count down to the call's end, and no clause of the calls says that they are keys that were read.
 pub record GoingView : Type 0 where
   pub call : Call
   pub budget : ℕ
@@ -75,6 +76,11 @@ pub record GoingView : Type 0 where
   pub kind : ℕ
   pub lower : ℕ
   pub upper : ℕ
+
+-- a note: how many changes and how many steps the pass had seen that made it
+pub record NoteView : Type 0 where
+  pub seen : ℕ
+  pub order : ℕ
 
 -- how large a map is: its passes, its records, and the heads of its structure
 pub record MapSizes : Type 0 where
@@ -88,6 +94,8 @@ pub record Meaning : Type 1 where
   pub need : ℕ
   -- the live records of a map of so many pairs
   pub live : ℕ → ℕ
+  -- the steps that each turn makes at least
+  pub turn_steps : ℕ
   -- how many hazard words there are
   pub hazards : MapSizes → ℕ
   -- the kinds of step that store
@@ -96,6 +104,8 @@ pub record Meaning : Type 1 where
   pub opening : MapSizes → List ℕ
   -- these words hold these pairs, in the records of these numbers
   pub Holds : MapSizes → List ℕ → List Pair → List ℕ → Type 0
+  -- so many records are attached in these words
+  pub Attached : MapSizes → List ℕ → ℕ → Type 0
   -- the lost turns of a call that made these steps
   pub lost : MapSizes → Call → List Step → ℕ
   -- those of them that came before it took effect

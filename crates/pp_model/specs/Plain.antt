@@ -1,7 +1,7 @@
 -- The plain map: sorted pairs, and the list of the placed calls, from which its log is read.
-use Rattle.std.specs.Prelude.{◌≡◌, ℕ, ◌+◌, ◌-◌, ◌<◌, ◌≤◌, false, cond, List, [], ◌∷◌, length}
+use Rattle.std.specs.Prelude.{◌≡◌, ℕ, ◌+◌, ◌-◌, ◌<◌, ◌≤◌, Bool, false, cond, List, [], ◌∷◌, length}
 use Rattle.pp_model.specs.declared.Call.{Call}
-use Rattle.pp_model.specs.declared.Reply.TheVariants.{Value, Absent, Added, Held, Took}
+use Rattle.pp_model.specs.declared.Reply.TheVariants.{Value, Absent, Added, Held, Took, Other}
 use Rattle.pp_model.specs.declared.Answer.{Answer}
 use Rattle.pp_model.specs.declared.Answer.TheVariants.{Said, Full, Lost}
 use Rattle.pp_model.specs.declared.Change.{Change}
@@ -11,8 +11,8 @@ use Rattle.pp_model.specs.Lists.{upto}
 use Rattle.pp_model.specs.FiniteMap.{KeysRise}
 use Rattle.pp_model.specs.Calls.{changes}
 use Rattle.pp_model.specs.History.{Sound, Stands, contents_of, change_of}
-use Rattle.pp_model.specs.Pass.{PassView, GoingView, MapSizes, Meaning, RunView}
-use Rattle.pp_model.specs.MapCalls.{MayCall, AnswersCall}
+use Rattle.pp_model.specs.Pass.{PassView, GoingView, NoteView, MapSizes, Meaning, RunView}
+use Rattle.pp_model.specs.MapCalls.{MayCall, AnswersCall, StandsIn}
 
 -- the changes of a list of placed calls, numbered from n on
 abbrev pub changes_from : ℕ → List Placed → List Change
@@ -58,6 +58,7 @@ PlainAnswers records pairs (Said (Held v)) = Unit {0}
 PlainAnswers records pairs (Said (Value v)) = Unit {0}
 PlainAnswers records pairs (Said Absent) = Unit {0}
 PlainAnswers records pairs (Said (Took v)) = Unit {0}
+PlainAnswers records pairs (Said (Other v)) = Unit {0}
 PlainAnswers records pairs Full = pairs ≡ records
 PlainAnswers records pairs (Lost turns) = ⊥
 
@@ -72,10 +73,12 @@ abbrev pub plain_meaning : Meaning
 plain_meaning = record {
   need = 1;
   live = λ n. n;
+  turn_steps = 0;
   hazards = λ sizes. 0;
   stores = λ kind. false;
   opening = λ sizes. [];
   Holds = λ sizes words contents live. (words ≡ []) × (live ≡ upto 1 (length contents));
+  Attached = λ sizes words n. Unit {0};
   lost = λ sizes call steps. 0;
   lost_early = λ sizes call steps. 0;
   Cause = PlainCause;
@@ -88,14 +91,29 @@ IsPlainAnswer call before now answer =
     (budget : ℕ) → 1 ≤ budget → AnswersCall plain_meaning (plain_sizes before.share) call budget before now answer
 
 -- a going call of the plain map: nothing happens before its one turn
-pub record PlainUnderWay (asked : Call) (races start : ℕ) (pass before : PassView) : Type 0 where
+pub record PlainUnderWay (asked : Call) (races start : ℕ) (struck : Bool) (pass before : PassView) : Type 0 where
   pub same : pass ≡ before
+  pub untouched : struck ≡ false
   pub start_is : start ≡ length before.seen
   pub may : MayCall asked races before
 
-abbrev pub plain_going : Call → ℕ → ℕ → GoingView
-plain_going asked races start =
-    record { call = asked; budget = races; lost = 0; start = start; struck = false; kind = 0; lower = 0; upper = 0 }
+abbrev pub plain_going : Call → ℕ → ℕ → Bool → GoingView
+plain_going asked races start struck =
+    record { call = asked; budget = races; lost = 0; start = start; struck = struck; kind = 0; lower = 0; upper = 0 }
+
+-- a note of the plain map
+abbrev pub plain_note : ℕ → NoteView
+plain_note seen = record { seen = seen; order = 0 }
+
+-- The pass may learn a note: it has seen as much. There is one pass, so it made each note itself.
+pub record PlainLearnable (pass : PassView) (note : ℕ) : Type 0 where
+  pub seen : note ≤ length pass.seen
+
+-- the pass is that of the plain map, and its placed calls stand in its log
+pub record PlainBelongs (records : ℕ) (pass : PassView) : Type 0 where
+  pub share : pass.share ≡ records
+  pub caller : pass.caller ≡ 0
+  pub stands : StandsIn pass
 
 -- the run that a closed plain map shows, by its number of records and its placed calls
 abbrev pub plain_run : ℕ → List Placed → RunView

@@ -3,7 +3,7 @@
 ghost use Rattle.std.specs.Prelude.{◌≡◌, ◌-◌, ◌^◌, ◌≤◌, [], length, vec_capacity};
 ghost use Rattle.pp_model.specs.Lists.{AtEach, IsPrefix};
 ghost use Rattle.pp_model.specs.Calls.{key_of};
-ghost use Rattle.pp_model.specs.MapCalls.{MayCall, AnswersCall, AnswersCalls, MineGrew, StandsIn};
+ghost use Rattle.pp_model.specs.MapCalls.{MayCall, AnswersCall, AnswersCalls, MineGrew};
 
 use crate::lists::enter;
 use crate::{Answer, Call, MapCalls, Turned};
@@ -56,7 +56,6 @@ pub fn answer_all<M: MapCalls>(
     ensures each { length answers.new.items ≡ length calls.now }
     ensures mine { MineGrew calls.now answers.new.items (M.pass_view pass.old) (M.pass_view pass.new) }
     ensures steps { IsPrefix (M.pass_view pass.old).steps (M.pass_view pass.new).steps }
-    ensures stands { StandsIn (M.pass_view pass.old) → StandsIn (M.pass_view pass.new) }
 {
     for call in calls {
         let answer = answer_one(map, pass, *call, races);

@@ -12,30 +12,46 @@ pub mod steps;
 pub use map_calls::{CloseFault, Closed, MapCalls};
 pub use plain::{PlainGoing, PlainKept, PlainMap, PlainPass};
 
-/// A call on a map. Keys are at most 2^64 - 4; values are any 64 bits.
+/// A call on a map. Keys are at most 2^64 - 4; values are any 128 bits.
 #[derive(Clone, Copy, Debug, PartialEq, Eq)]
 pub enum Call {
     /// Asks for the value of a key.
     Get { key: u64 },
     /// Adds a pair where the key is absent.
-    Insert { key: u64, value: u64 },
+    Insert { key: u64, value: u128 },
     /// Takes the pair of a key away.
     Remove { key: u64 },
+    /// Takes the pair of a key away where it has this value.
+    Cut { key: u64, value: u128 },
 }
 
 /// What a map replies to a call.
 #[derive(Clone, Copy, Debug, PartialEq, Eq)]
 pub enum Reply {
     /// A get found the key with this value.
-    Value(u64),
-    /// A get or a remove didn't find the key.
+    Value(u128),
+    /// A get, a remove or a cut didn't find the key.
     Absent,
     /// An insert added its pair.
     Added,
     /// An insert found the key with this value, which stays.
-    Held(u64),
-    /// A remove took the pair away; this was its value.
-    Took(u64),
+    Held(u128),
+    /// A remove or a cut took the pair away; this was its value.
+    Took(u128),
+    /// A cut found the key with this value, which stays: it isn't the one that was asked for.
+    Other(u128),
+}
+
+ghost use Rattle.std.specs.Prelude.{◌≡◌};
+ghost use Rattle.pp_model.specs.Calls.{changes};
+
+impl Reply {
+    /// Whether it says that the map was changed.
+    pub fn changes(&self) -> bool
+        ensures { result ≡ changes self.now }
+    {
+        matches!(self, Reply::Added | Reply::Took(_))
+    }
 }
 
 /// How a call ended.
@@ -47,6 +63,20 @@ pub enum Answer {
     Full,
     /// The call lost as many turns as it was allowed, before it took effect; nothing changed.
     Lost { turns: u64 },
+}
+
+ghost use Rattle.pp_model.specs.MapCalls.{took_effect};
+
+impl Answer {
+    /// Whether the call took effect: it changed the map.
+    pub fn took_effect(&self) -> bool
+        ensures { result ≡ took_effect self.now }
+    {
+        match self {
+            Answer::Said(said) => said.changes(),
+            Answer::Full | Answer::Lost { .. } => false,
+        }
+    }
 }
 
 /// A change of a map, as the log of a run lists it: which caller's call of which number, from 1, made it.
@@ -70,7 +100,7 @@ pub struct Placed {
 #[derive(Clone, Copy, Debug, PartialEq, Eq)]
 pub struct Pair {
     pub key: u64,
-    pub value: u64,
+    pub value: u128,
 }
 
 /// There was no memory.
@@ -89,7 +119,18 @@ pub enum Inserted {
     /// It added its pair.
     Added,
     /// The key was there with this value, which stays.
-    Held(u64),
+    Held(u128),
+}
+
+/// What a cut did.
+#[derive(Clone, Copy, Debug, PartialEq, Eq)]
+pub enum Cut {
+    /// It took the pair away: the key was there with the value asked for.
+    Took,
+    /// The key was there with this other value, which stays.
+    Other(u128),
+    /// The key was absent.
+    Absent,
 }
 
 /// Why an insert did nothing.

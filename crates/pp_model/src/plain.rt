@@ -1,19 +1,22 @@
 //! The plain map: one caller, and its pairs in one sorted vector.
 
-ghost use Rattle.std.specs.Prelude.{◌≡◌, ◌+◌, ◌-◌, ◌<◌, ◌≤◌, false, [], ◌∷◌, ◌++◌, Ok, length, map, insert, vec_capacity, IfOk, IfErr};
+ghost use Rattle.std.specs.Prelude.{◌≡◌, ℕ, ◌+◌, ◌-◌, ◌<◌, ◌≤◌, false, [], ◌∷◌, ◌++◌, Ok, Some, length, map, insert};
+ghost use Rattle.std.specs.Prelude.{vec_capacity, IfOk, IfErr};
 ghost use Rattle.pp_model.specs.declared.Answer.TheVariants.{Said};
 ghost use Rattle.pp_model.specs.declared.Call.TheVariants as Call;
 ghost use Rattle.pp_model.specs.declared.Reply.TheVariants as Reply;
 ghost use Rattle.pp_model.specs.Lists.{AtEach, upto};
-ghost use Rattle.pp_model.specs.FiniteMap.{KeysRise, HasKeyAt, LacksKeyAt};
-ghost use Rattle.pp_model.specs.Calls.{reply, changes};
+ghost use Rattle.pp_model.specs.FiniteMap.{find, KeysRise, HasKeyAt, LacksKeyAt};
+ghost use Rattle.pp_model.specs.Calls.{reply, changes, Takes};
 ghost use Rattle.pp_model.specs.History.{contents_of};
 ghost use Rattle.pp_model.specs.Pass.{IsFresh};
-ghost use Rattle.pp_model.specs.MapCalls.{IsClosing, get_answer, insert_answer, remove_answer};
-ghost use Rattle.pp_model.specs.Plain.{PlainUnderWay, IsPlainAnswer, plain_meaning, plain_sizes, plain_going, plain_run};
+ghost use Rattle.pp_model.specs.MapCalls.{IsClosing, IsClean, get_answer, insert_answer, remove_answer, cut_answer};
+ghost use Rattle.pp_model.specs.Plain.{PlainUnderWay, PlainLearnable, PlainBelongs, IsPlainAnswer, plain_meaning, plain_sizes};
+ghost use Rattle.pp_model.specs.Plain.{plain_going, plain_note, plain_run};
+ghost use Rattle.pp_model.specs.PlainLaws.{plain_stands, plain_learns_later, plain_others_learn};
 
 use crate::{
-    Answer, Call, CloseFault, Closed, InsertFault, Inserted, Lost, MapCalls, NoMemory, Pair,
+    Answer, Call, CloseFault, Closed, Cut, InsertFault, Inserted, Lost, MapCalls, NoMemory, Pair,
     Placed, Reply, Turned,
 };
 use std::alloc::Global;
@@ -63,6 +66,7 @@ pub struct PlainGoing {
     call: Call,
     races: u64,
     start: u64,
+    struck: bool,
 }
 
 /// What a closed plain map keeps of its run: its number of records, and the calls that were answered by a reply.
@@ -85,6 +89,8 @@ impl PlainMap {
         ensures room { IfOk result (λ s. s.1.room ≡ calls) }
         ensures share { IfOk result (λ s. s.1.share ≡ records) }
         ensures free { IfOk result (λ s. s.1.free ≡ upto 1 records) }
+        ensures belongs { IfOk result (λ s. PlainBelongs records s.1) }
+        ensures clean { IfOk result (λ s. IsClean plain_meaning s.0 s.1) }
     {
         let pairs = reserved(alloc, records)?;
         let placed = reserved(alloc, calls)?;
@@ -109,7 +115,7 @@ impl PlainGoing {
 }
 
 impl PlainPass {
-    fn get(&mut self, key: u64) -> Option<u64>
+    fn get(&mut self, key: u64) -> Option<u128>
         requires { 1 ≤ self.old.room }
         ensures { IsPlainAnswer (Call.Get key) self.old self.new (get_answer (Ok result)) }
     {
@@ -126,7 +132,7 @@ impl PlainPass {
         }
     }
 
-    fn insert(&mut self, key: u64, value: u64) -> Result<Inserted, InsertFault>
+    fn insert(&mut self, key: u64, value: u128) -> Result<Inserted, InsertFault>
         requires { 1 ≤ self.old.room }
         ensures { IsPlainAnswer (Call.Insert key value) self.old self.new (insert_answer result) }
     {
@@ -146,15 +152,36 @@ impl PlainPass {
         }
     }
 
-    fn remove(&mut self, key: u64) -> Option<u64>
+    fn remove(&mut self, key: u64) -> Option<u128>
         requires { 1 ≤ self.old.room }
         ensures { IsPlainAnswer (Call.Remove key) self.old self.new (remove_answer (Ok result)) }
     {
         match spot(&self.pairs, key) {
-            Ok(i) => Some(self.take(i, key)),
+            Ok(i) => Some(self.take(i, key, Call::Remove { key })),
             Err(_) => {
                 self.enter(Call::Remove { key }, Reply::Absent);
                 None
+            }
+        }
+    }
+
+    fn cut(&mut self, key: u64, value: u128) -> Cut
+        requires { 1 ≤ self.old.room }
+        ensures { IsPlainAnswer (Call.Cut key value) self.old self.new (cut_answer value (Ok result)) }
+    {
+        match spot(&self.pairs, key) {
+            Ok(i) => {
+                let held = self.pairs[i].value;
+                if held == value {
+                    self.take(i, key, Call::Cut { key, value });
+                    return Cut::Took;
+                }
+                self.enter(Call::Cut { key, value }, Reply::Other(held));
+                Cut::Other(held)
+            }
+            Err(_) => {
+                self.enter(Call::Cut { key, value }, Reply::Absent);
+                Cut::Absent
             }
         }
     }
@@ -177,6 +204,11 @@ impl PlainPass {
             Call::Remove { key } => match self.remove(key) {
                 Some(value) => Answer::Said(Reply::Took(value)),
                 None => Answer::Said(Reply::Absent),
+            },
+            Call::Cut { key, value } => match self.cut(key, value) {
+                Cut::Took => Answer::Said(Reply::Took(value)),
+                Cut::Other(held) => Answer::Said(Reply::Other(held)),
+                Cut::Absent => Answer::Said(Reply::Absent),
             },
         }
     }
@@ -216,16 +248,18 @@ impl PlainPass {
         push_reserved(&mut self.placed, placed);
     }
 
-    // Takes the pair of a key away, and enters the remove.
-    fn take(&mut self, i: usize, key: u64) -> u64
+    // Takes the pair of a key away, and enters the call that does so.
+    fn take(&mut self, i: usize, key: u64, call: Call) -> u128
         requires room { 1 ≤ self.old.room }
         requires has { HasKeyAt (contents_of self.old.seen) key i }
-        ensures { IsPlainAnswer (Call.Remove key) self.old self.new (Said (Reply.Took result)) }
+        requires takes { (w : ℕ) → find (contents_of self.old.seen) key ≡ Some w → Takes call key w }
+        ensures takes { Takes call key result }
+        ensures answered { IsPlainAnswer call self.old self.new (Said (Reply.Took result)) }
     {
         let value = self.pairs.remove(i).value;
         self.changes += 1;
         let placed = Placed {
-            call: Call::Remove { key },
+            call,
             reply: Reply::Took(value),
             place: self.changes,
         };
@@ -239,6 +273,8 @@ impl MapCalls for PlainMap {
 
     type Going = PlainGoing;
 
+    type Note = u64;
+
     type Witness = PlainKept;
 
     ghost meaning = { plain_meaning };
@@ -247,17 +283,21 @@ impl MapCalls for PlainMap {
 
     ghost pass_view = { λ pass. pass };
 
-    ghost going_view = { λ going. plain_going going.call going.races going.start };
+    ghost going_view = { λ pass going. plain_going going.call going.races going.start going.struck };
+
+    ghost note_view = { λ note. plain_note note };
 
     ghost run_view = { λ kept. plain_run kept.records kept.placed.items };
 
     ghost Idle = { λ pass. Unit {0} };
 
-    ghost Belongs = { λ map pass. pass.share ≡ map.records };
+    ghost Belongs = { λ map pass. PlainBelongs map.records pass };
 
-    ghost UnderWay = { λ map pass going before. PlainUnderWay going.call going.races going.start pass before };
+    ghost UnderWay = { λ map pass going before. PlainUnderWay going.call going.races going.start going.struck pass before };
 
-    fn get(&self, pass: &mut PlainPass, key: u64, _races: u64) -> Result<Option<u64>, Lost> {
+    ghost Learnable = { λ map pass note. PlainLearnable pass note };
+
+    fn get(&self, pass: &mut PlainPass, key: u64, _races: u64) -> Result<Option<u128>, Lost> {
         Ok(pass.get(key))
     }
 
@@ -265,14 +305,18 @@ impl MapCalls for PlainMap {
         &self,
         pass: &mut PlainPass,
         key: u64,
-        value: u64,
+        value: u128,
         _races: u64,
     ) -> Result<Inserted, InsertFault> {
         pass.insert(key, value)
     }
 
-    fn remove(&self, pass: &mut PlainPass, key: u64, _races: u64) -> Result<Option<u64>, Lost> {
+    fn remove(&self, pass: &mut PlainPass, key: u64, _races: u64) -> Result<Option<u128>, Lost> {
         Ok(pass.remove(key))
+    }
+
+    fn cut(&self, pass: &mut PlainPass, key: u64, value: u128, _races: u64) -> Result<Cut, Lost> {
+        Ok(pass.cut(key, value))
     }
 
     fn begin(&self, pass: &mut PlainPass, call: Call, races: u64) -> PlainGoing {
@@ -280,14 +324,29 @@ impl MapCalls for PlainMap {
             call,
             races,
             start: pass.changes,
+            struck: false,
         }
     }
 
     fn turn(&self, pass: &mut PlainPass, going: &mut PlainGoing) -> Turned {
-        Turned::Done(pass.answer(going.call))
+        let answer = pass.answer(going.call);
+        going.struck = answer.took_effect();
+        Turned::Done(answer)
     }
 
     fn finish(&self, _going: PlainGoing) {}
+
+    fn struck(&self, going: &PlainGoing) -> bool {
+        going.struck
+    }
+
+    fn note(&self, pass: &mut PlainPass) -> u64 {
+        pass.changes
+    }
+
+    fn learn(&self, pass: &mut PlainPass, _note: u64) {
+        let _seen = pass.changes;
+    }
 
     fn close(
         self,
@@ -295,13 +354,13 @@ impl MapCalls for PlainMap {
         passes: Vec<PlainPass>,
     ) -> Result<Closed<PlainKept>, CloseFault<PlainMap, PlainPass>>
         requires all { length passes.items ≡ (plain_sizes self.records).passes }
-        requires each { AtEach passes.items (λ k p. (p.share ≡ self.records) × Unit {0} × (p.caller ≡ k)) }
+        requires each { AtEach passes.items (λ k p. PlainBelongs self.records p × Unit {0} × (p.caller ≡ k)) }
         ensures closed { IfOk result (λ c. IsClosing plain_meaning (plain_sizes self.records) (map (λ p. p) passes.items)
             c.contents.items c.free.items (plain_run c.witness.records c.witness.placed.items)) }
         ensures back { IfErr result (λ e. (e.map ≡ self) × (e.passes.items ≡ passes.items)) }
     {
         let mut passes = passes;
-        let kept = passes[0].pairs.len() as u32;
+        let kept = passes[0].pairs.len();
         let Ok(free) = numbers(alloc, kept, self.records) else {
             return Err(CloseFault { map: self, passes });
         };
@@ -316,6 +375,12 @@ impl MapCalls for PlainMap {
         } = pass;
         Ok(Closed::new(pairs, free, PlainKept { records, placed }))
     }
+
+    ghost stands = { plain_stands };
+
+    ghost learns_later = { plain_learns_later };
+
+    ghost others_learn = { plain_others_learn };
 }
 
 // Where a key stands among sorted pairs, or else at which position it would stand.
@@ -362,10 +427,11 @@ fn insert_reserved(pairs: &mut Vec<Pair>, i: usize, pair: Pair)
 }
 
 // The numbers above the first one, up to the second.
-fn numbers(alloc: Global, below: u32, last: u32) -> Result<Vec<u32>, NoMemory>
-    requires { below ≤ last }
-    ensures { IfOk result (λ v. v.items ≡ upto (below + 1) (last - below)) }
+fn numbers(alloc: Global, first: usize, last: u32) -> Result<Vec<u32>, NoMemory>
+    requires { first ≤ last }
+    ensures { IfOk result (λ v. v.items ≡ upto (first + 1) (last - first)) }
 {
+    let below = first as u32;
     let mut numbers = reserved(alloc, last - below)?;
     for n in below..last {
         push_reserved(&mut numbers, n + 1);
@@ -404,6 +470,37 @@ mod tests {
         ];
         assert_eq!(rt; answers.as_slice(), wanted.as_slice());
         linearization_is_legal();
+        Ok(())
+    }
+
+    #[test]
+    fn cuts_where_the_value_is_the_one_asked_for(rt: HostRuntime) -> Result<(), Fail> {
+        let alloc = rt.alloc();
+        let Ok((map, mut pass)) = PlainMap::start(alloc, 2, 5) else {
+            panic!(rt; "no memory");
+        };
+        let most = u128::MAX;
+        assert_eq!(rt; map.insert(&mut pass, 7, most, 1), Ok(Inserted::Added));
+        assert_eq!(rt; map.cut(&mut pass, 7, 1, 1), Ok(Cut::Other(most)));
+        let before = map.note(&mut pass);
+        let mut going = map.begin(
+            &mut pass,
+            Call::Cut {
+                key: 7,
+                value: most,
+            },
+            1,
+        );
+        map.learn(&mut pass, before);
+        assert!(rt; !map.struck(&going));
+        assert_eq!(rt;
+            map.turn(&mut pass, &mut going),
+            Turned::Done(Answer::Said(Reply::Took(most)))
+        );
+        assert!(rt; map.struck(&going));
+        assert_eq!(rt; going.lost(), 0);
+        map.finish(going);
+        assert_eq!(rt; map.cut(&mut pass, 7, most, 1), Ok(Cut::Absent));
         Ok(())
     }
 

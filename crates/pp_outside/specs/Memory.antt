@@ -1,6 +1,7 @@
 -- What contracts see of a source or a sink in memory, and what one call of it does.
-use Rattle.std.specs.Prelude.{◌≡◌, ℕ, ◌+◌, ◌-◌, ◌^◌, min, List, ◌++◌, length, take, drop, Contains, Result, Ok, Err}
+use Rattle.std.specs.Prelude.{◌≡◌, ℕ, min, List, ◌++◌, length, take, drop, Contains, Result, Ok, Err}
 use Rattle.pp_outside.specs.declared.Failed.{Failed}
+use Rattle.pp_outside.specs.Outside.{counted}
 
 -- its bytes, the most that a call moves, the numbers of the calls that fail, the calls and the faults so far
 pub record Memory : Type 0 where
@@ -9,10 +10,6 @@ pub record Memory : Type 0 where
   pub failing : List ℕ
   pub calls : ℕ
   pub faults : ℕ
-
--- one more on a counter that stays at its last value
-abbrev pub counted : ℕ → ℕ
-counted n = min (n + 1) (2 ^ 64 - 1)
 
 -- the number of the next call is one of those that fail
 abbrev pub FailsNext : Memory → Type 0

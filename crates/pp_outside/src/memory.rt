@@ -52,12 +52,14 @@ impl Source for MemSource {
 
     ghost faults = { λ s. s.faults };
 
+    ghost Reads = { MemoryRead };
+
     fn read(&mut self, into: &mut [u8]) -> Result<usize, Failed>
         requires room { 0 < length into.old }
         ensures bound { ReadsAtMost result into.new }
         ensures bytes { ReadConsumes (Some self.old.bytes) (Some self.new.bytes) result into.new }
         ensures cause { HasCause self.old.faults self.new.faults result }
-        ensures exact { MemoryRead self.old self.new (length into.old) result }
+        ensures made { MemoryRead self.old self.new (length into.old) result }
     {
         self.reads = self.reads.saturating_add(1);
         if self.failing.as_slice().contains(&self.reads) {
@@ -120,13 +122,15 @@ impl Sink for MemSink {
 
     ghost faults = { λ s. s.faults };
 
+    ghost Writes = { MemoryWrite };
+
     fn write(&mut self, bytes: &[u8]) -> Result<usize, Failed>
         requires some { 0 < length bytes.now }
         ensures bound { WritesAtMost result bytes.now }
         ensures progress { IfOk result (λ n. 1 ≤ n) }
         ensures bytes { WriteAppends (Some self.old.bytes) (Some self.new.bytes) result bytes.now }
         ensures cause { HasCause self.old.faults self.new.faults result }
-        ensures exact { MemoryWrite self.old self.new bytes.now result }
+        ensures made { MemoryWrite self.old self.new bytes.now result }
     {
         self.writes = self.writes.saturating_add(1);
         if self.failing.as_slice().contains(&self.writes) {

@@ -1,7 +1,7 @@
 //! Reading a source to its end.
 
 ghost use Rattle.std.specs.Prelude.{◌≡◌, ℕ, ◌+◌, ◌≤◌, length, IfOk, IfErr};
-ghost use Rattle.pp_outside.specs.Outside.{WasAll, ReadCause};
+ghost use Rattle.pp_outside.specs.Outside.{WasAll, ReadCause, ReadsTillFault};
 
 use crate::Source;
 use std::alloc::Global;
@@ -20,17 +20,19 @@ pub enum ReadFault {
 /// The room that each read is offered, in bytes.
 const CHUNK: usize = 16_384;
 
-/// Reads a source to its end and gives all its bytes, in order, at most `most`.
+/// Reads a source to its end and gives all its bytes, in order, at most `most`. Each read is offered at least 64 bytes of room.
 ///
 /// # Errors
 ///
-/// `Failed` where a read failed, which ends the reading; `TooLong` exactly where the source gave more than
+/// `Failed` where a read failed: the first one that does ends the reading. `TooLong` exactly where the source gave more than
 /// `most` bytes and no read failed before; `NoMemory` for want of memory.
 pub fn read_all<S: Source>(alloc: Global, source: &mut S, most: u32) -> Result<Vec<u8>, ReadFault>
     ensures all { IfOk result (λ v. WasAll (S.left source.old) (S.left source.new) v.items) }
     ensures most { IfOk result (λ v. length v.items ≤ most) }
     ensures cause { IfErr result (λ e. ReadCause most (S.left source.old) (S.left source.new) (S.faults source.old) (S.faults source.new) e) }
+    ensures kept { IfOk result (λ v. S.faults source.new ≡ S.faults source.old) }
     ensures later { S.faults source.old ≤ S.faults source.new }
+    ensures reads { ReadsTillFault S.Reads 64 source.old source.new result }
 {
     let most = most as usize;
     let mut bytes = Vec::new(alloc);

@@ -1,6 +1,7 @@
 //! Sources and sinks over std's readers and writers: the edge to the real world.
 
 ghost use Rattle.std.specs.Prelude.{◌≡◌, ℕ};
+ghost use Rattle.pp_outside.specs.Outside.{CountsFaults};
 
 use crate::{Failed, Sink, Source};
 use std::io::{Read, Write};
@@ -26,6 +27,8 @@ impl<R: Read> Source for StdSource<R> {
     ghost left = { λ s. R.remaining s.inner };
 
     ghost faults = { λ s. s.faults };
+
+    ghost Reads = { λ s t room result. CountsFaults s.faults t.faults result };
 
     fn read(&mut self, into: &mut [u8]) -> Result<usize, Failed> {
         match self.inner.read(into) {
@@ -60,6 +63,8 @@ impl<W: Write> Sink for StdSink<W> {
     ghost written = { λ s. W.contents s.inner };
 
     ghost faults = { λ s. s.faults };
+
+    ghost Writes = { λ s t offered result. CountsFaults s.faults t.faults result };
 
     fn write(&mut self, bytes: &[u8]) -> Result<usize, Failed> {
         match self.inner.write(bytes) {

@@ -1,6 +1,6 @@
 //! A source and a sink that never fail.
 
-ghost use Rattle.std.specs.Prelude.{◌≡◌, ℕ, ◌+◌, ◌-◌, ◌^◌, ◌<◌, ◌≤◌, min, drop, length, None, Some, Ok, IfOk};
+ghost use Rattle.std.specs.Prelude.{◌≡◌, ℕ, ◌+◌, ◌-◌, ◌^◌, ◌<◌, ◌≤◌, min, drop, length, None, Some, Ok, IsOk, IfOk};
 ghost use Rattle.std.specs.Io.{WritesAtMost};
 ghost use Rattle.std.specs.Io.KnownBytes.{WriteAppends};
 ghost use Rattle.pp_outside.specs.Outside.{HasCause};
@@ -28,6 +28,8 @@ impl Source for SureSource {
     ghost left = { λ s. Some (drop s.at s.bytes.items) };
 
     ghost faults = { λ s. 0 };
+
+    ghost Reads = { λ s t room result. IsOk result };
 
     fn read(&mut self, into: &mut [u8]) -> Result<usize, Failed> {
         let count = (self.bytes.len() - self.at).min(into.len());
@@ -58,13 +60,15 @@ impl Sink for SureSink {
 
     ghost faults = { λ s. 0 };
 
+    ghost Writes = { λ s t offered result. result ≡ Ok (length offered) };
+
     fn write(&mut self, bytes: &[u8]) -> Result<usize, Failed>
         requires some { 0 < length bytes.now }
         ensures bound { WritesAtMost result bytes.now }
         ensures progress { IfOk result (λ n. 1 ≤ n) }
         ensures bytes { WriteAppends None None result bytes.now }
         ensures cause { HasCause 0 0 result }
-        ensures whole { result ≡ Ok (length bytes.now) }
+        ensures made { result ≡ Ok (length bytes.now) }
         ensures count { self.new.count ≡ min (self.old.count + length bytes.now) (2 ^ 64 - 1) }
     {
         self.count = self.count.saturating_add(bytes.len() as u64);

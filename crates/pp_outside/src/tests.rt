@@ -20,6 +20,8 @@ impl Source for Watched {
 
     ghost faults = { λ s. 0 };
 
+    ghost Reads = { λ s t room result. Unit {0} };
+
     fn read(&mut self, into: &mut [u8]) -> Result<usize, Failed> {
         self.least = self.least.min(into.len());
         if self.left == 0 {

@@ -23,6 +23,7 @@ use Rattle.pp_rule.specs.Ties.{Holds}
 use Rattle.pp_rule.specs.Steps.{both_parts, told_part, order_of, IsAlone}
 use Rattle.pp_rule.specs.Closing.{spare, IsEnd}
 use Rattle.pp_rule.specs.Laws.{Closes}
+use Rattle.pp_rule.specs.Alone.{IsOwnStep, HasOwnChanges}
 use Rattle.pp_rule.proofs.Put.{in_first, in_later, in_cases, in_one}
 use Rattle.pp_rule.proofs.Counting.{each_once, none_else}
 use Rattle.pp_rule.proofs.Seats.{longer_one, ended}
@@ -158,34 +159,38 @@ module _ {E A W : Type 0} where
         (each_image seat (IsSeatOf table z) passes each) (length-map passes seat ∙ all) j))
 
     -- What the closed pool shows, from what the last state tells.
-    pub closes : (alive : Sizes → List ℕ → List ℕ) (live_count : ℕ → ℕ) (pairs : Sizes → List ℕ → List Pair)
+    pub closes : (gathered : Sizes → List ℕ → List Pair → List ℕ → Type 0) (live_count : ℕ → ℕ)
         (tells : Sizes → List E → List Pair → Type 0) (tells_pass : Sizes → List E → ℕ → List A → Type 0)
-        → Closes sides addition alive live_count pairs tells tells_pass → (z : Sizes) (seats : List (Seat Unit (SeatView E A W)))
-        (v w : SeatView E A W) (words : List ℕ) (contents : List Pair) (free : List ℕ) → IsJoined seats v
-        → IsEnd sides opens addition z v words → w ≡ told_part v → contents ≡ pairs z words → free ≡ spare (alive z words) 1 z.records
-        → IsClosedPool (opens z) pairs alive live_count tells tells_pass z seats contents free w
-    closes alive live_count pairs tells tells_pass law z seats v w words contents free j e told contents_are free_are =
-        let g = law z words e.pool e.base e.added in
+        (caller : E → ℕ) → Closes sides addition gathered live_count tells tells_pass → HasOwnChanges addition caller
+        → (z : Sizes) (seats : List (Seat Unit (SeatView E A W)))
+        (v w : SeatView E A W) (words : List ℕ) (contents : List Pair) (live free : List ℕ) → IsJoined seats v
+        → IsEnd sides opens addition z v words → w ≡ told_part v → gathered z words contents live → free ≡ spare live 1 z.records
+        → IsClosedPool (opens z) gathered live_count tells tells_pass caller z seats contents free live w
+    closes gathered live_count tells tells_pass caller law law_own z seats v w words contents live free j e told contents_are free_are =
+        let g = law z words e.pool contents live e.base e.added contents_are in
         let kept : (o : JoinedOrder E A) → IsIn o (order_of v ∷ v.kept) → BeginsWith v.order o.order
         × (made_by o.pass o.order ≡ made_by o.pass v.order) = λ o i. ⊎_elim
         (λ (first : o ≡ order_of v). subst (λ (o : JoinedOrder E A). BeginsWith v.order o.order
         × (made_by o.pass o.order ≡ made_by o.pass v.order)) (sym first) (([], sym (append-nil v.order)), refl))
         (λ (later : IsIn o v.kept). e.kept o later) (in_cases o (order_of v) v.kept i) in
-        subst (λ (u : SeatView E A W). IsClosedPool (opens z) pairs alive live_count tells tells_pass z seats contents free u) (sym told)
+        subst (λ (u : SeatView E A W). IsClosedPool (opens z) gathered live_count tells tells_pass caller z
+        seats contents free live u)
+        (sym told)
         record {
           standing = refl;
           words = words;
           run = e.run;
           all = j.all;
           made = e.made;
+          own = subst (λ (o : List (LoggedStep E A)). (s : LoggedStep E A) → IsIn s o → IsOwnStep caller s) e.order
+              (law_own z words e.pool e.added);
           each = λ s i. kept (order_of (view s)) (j.orders s i);
           longest = j.longest;
           contents_are = contents_are;
-          told = subst (λ (l : List Pair). tells z (log_of v.order) l) (sym contents_are)
-              (subst (λ (o : List (LoggedStep E A)). tells z (log_of o) (pairs z words)) e.order g.2);
+          told = subst (λ (o : List (LoggedStep E A)). tells z (log_of o) contents) e.order g.2;
           told_pass = λ p lt. subst (λ (o : List (LoggedStep E A)). tells_pass z (log_of o) p (placed_by p o)) e.order (g.3 p lt);
-          once = λ n is. ap (λ (l : List ℕ). times n (alive z words) + times n l) free_are ∙ each_once (alive z words) z g.0 n is.0 is.1;
-          no_other = λ n out. ap (λ (l : List ℕ). times n (alive z words) + times n l) free_are ∙ none_else (alive z words) z g.0 n out;
-          live_are = g.1 ∙ ap (λ (l : List Pair). live_count (length l)) (sym contents_are);
+          once = λ n is. ap (λ (l : List ℕ). times n live + times n l) free_are ∙ each_once live z g.0 n is.0 is.1;
+          no_other = λ n out. ap (λ (l : List ℕ). times n live + times n l) free_are ∙ none_else live z g.0 n out;
+          live_are = g.1;
           free_are = free_are;
         }

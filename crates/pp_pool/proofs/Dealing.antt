@@ -60,8 +60,8 @@ module _ {E A W : Type 0} where
   abbrev kept_seat : Me Unit (SeatView E A W) → Me Unit (SeatView E A W)
   kept_seat me = (kept_part me.0, me.1)
 
-  -- The passes from n on are still to be dealt: the seat stands for them, the first of their records is this one, and there is room
-  -- for their lists.
+  -- The passes from n on are still to be dealt: the seat stands for them, the first of their records is this one, and there is
+  -- room for their lists.
   pub record IsDealing (sentinels : ℕ) (own : W) (table : TableId) (z : Sizes) (n first : ℕ) (rooms : List Room)
       (s : Seat Unit (SeatView E A W)) : Type 0 where
     pub table_is : s.table_id ≡ table

@@ -5,3 +5,4 @@ pub mod Dealing
 pub mod Closings
 pub mod Marking
 pub mod Taking
+pub mod Noting

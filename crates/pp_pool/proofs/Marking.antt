@@ -12,7 +12,7 @@ use lib.ListN.{get_elem?}
 use Rattle.pp_rule.specs.Lists.{times}
 use Rattle.pp_rule.specs.Closing.{spare}
 use Rattle.pp_rule.proofs.Counting.{times_here, times_else, times_nil}
-use Rattle.pp_base.proofs.Reclaiming.{times_append}
+use Rattle.pp_rule.proofs.Times.{times_append}
 use Rattle.pp_pool.specs.Marks.{MarksSpare, marked}
 
 module _ {A : Type 0} where

@@ -1,12 +1,15 @@
 -- The purse of a pass agrees with its seat as records are taken from its free list, given back and told of as published.
-use Rattle.std.proofs.Common.{◌≡◌, ◌≢◌, ℕ, ◌+◌, ◌-◌, ◌^◌, ◌<◌, ◌≤◌, min, List, [], ◌∷◌, ◌++◌, length}
+use Rattle.std.proofs.Common.{◌≡◌, ◌≢◌, ℕ, ◌+◌, ◌-◌, ◌^◌, ◌<◌, ◌≤◌, min, List, [], ◌∷◌, ◌++◌, map, length}
 use Rattle.std.proofs.Common.{refl, sym, ap, ◌∙◌, subst, arith, length-append}
 use Rattle.std.proofs.lemmas.List.{length-map}
 use Rattle.std.proofs.Math.Decide.{ℕ_discrete}
 use mathlib.Core.Logic.{dite}
 use Rattle.std.specs.Prelude.{Vec, vec_capacity, Option, Some, Result, Ok, option_to_list, is_ok, if◌then◌else◌}
 use Rattle.atomic_table.specs.declared.shared.Seat.{Seat}
-use Rattle.pp_rule.specs.Lists.{times}
+use mathlib.Core.Option.{some}
+use lib.ListN.{get_elem?}
+use Rattle.pp_rule.specs.Lists.{OnceBy, times, remove_at}
+use Rattle.pp_rule.specs.declared.views.PrivateRecord.{PrivateRecord}
 use Rattle.pp_rule.specs.declared.views.PassState.{PassState}
 use Rattle.pp_rule.specs.declared.views.SeatView.{SeatView}
 use Rattle.pp_rule.specs.Rule.{number_of}
@@ -16,10 +19,9 @@ use Rattle.pp_rule.proofs.Private.{numbers_set}
 use Rattle.pp_base.specs.declared.purse.Purse.{Purse}
 use Rattle.pp_base.specs.Passes.{known, members_of, owned_numbers, numbers_of, Keeping}
 use Rattle.pp_base.specs.Private.{WroteField}
-use Rattle.pp_base.proofs.Numbered.{times_length}
-use Rattle.pp_base.proofs.Reclaiming.{times_append}
+use Rattle.pp_rule.proofs.Times.{times_append, times_length, times_once, times_removed, one_fewer}
 use Rattle.pp_base.proofs.Telling.{made_known}
-use Rattle.pp_pool.specs.Taken.{IsPrivate, Took, GaveBack}
+use Rattle.pp_pool.specs.Taken.{IsPrivate, IsPublished, Took, GaveBack}
 
 -- a number behind a list stands in it once more
 pub times_last : (n : ℕ) (xs : List ℕ) → times n (xs ++ n ∷ []) ≡ times n xs + 1
@@ -152,3 +154,16 @@ module _ {E A W : Type 0} (s s' : Seat Unit (SeatView E A W)) where
   private_wrote n f x place m p p' w same private = subst (λ (l : List ℕ). times m p'.free.items < times m l)
       (sym (owned_wrote n f x place w))
       (subst (λ (r : Purse). times m r.free.items < times m (owned_numbers (known s))) (sym same) private)
+
+-- A record that was taken is published by a step after which the pass owns all others still.
+pub published_after : {W : Type 0} (q q' : PassState W) (p : Purse) (i : ℕ) (d : PrivateRecord) → OnceBy number_of q.owned
+    → length q.owned ≤ length p.free.items + p.taken → get_elem? q.owned i ≡ some d → q'.owned ≡ remove_at i q.owned
+    → IsPrivate q p d.number → IsPublished q' p d.number
+published_after {W} q q' p i d once counted at owned private = record {
+  gone = let one = times_once d.number q.owned once in let removed = times_removed d.number q.owned i d at in
+      let here = times_here d.number d.number (map number_of (remove_at i q.owned)) refl in
+      let is = ap (λ (ds : List PrivateRecord). times d.number (map number_of ds)) owned in
+      omega (arith, one, removed, here, is, private);
+  untold = let fewer = one_fewer q.owned i d at in let count = ap (λ (ds : List PrivateRecord). length ds) owned in
+      omega (arith, fewer, count, counted);
+}

@@ -15,12 +15,13 @@ module _ {A : Type 0} where
   pub none_yet : (old part : List A) → part ≡ [] → old ≡ old ++ part
   none_yet old part none = let e : old ++ [] ≡ old = append-nil old in sym (ap (λ (l : List A). old ++ l) none ∙ e)
 
-  pub four_appended : (old one two three four : List A) (a b c d : A) → one ≡ old ++ a ∷ [] → two ≡ one ++ b ∷ [] → three ≡ two ++ c ∷ []
-      → four ≡ three ++ d ∷ [] → four ≡ old ++ (a ∷ b ∷ c ∷ d ∷ [])
-  four_appended old one two three four a b c d p q r s =
-      appended old three four (a ∷ b ∷ c ∷ []) (d ∷ []) (a ∷ b ∷ c ∷ d ∷ [])
+  pub five_appended : (old one two three four five : List A) (a b c d e : A) → one ≡ old ++ a ∷ [] → two ≡ one ++ b ∷ []
+      → three ≡ two ++ c ∷ [] → four ≡ three ++ d ∷ [] → five ≡ four ++ e ∷ [] → five ≡ old ++ (a ∷ b ∷ c ∷ d ∷ e ∷ [])
+  five_appended old one two three four five a b c d e p q r s t =
+      appended old four five (a ∷ b ∷ c ∷ d ∷ []) (e ∷ []) (a ∷ b ∷ c ∷ d ∷ e ∷ [])
+      (appended old three four (a ∷ b ∷ c ∷ []) (d ∷ []) (a ∷ b ∷ c ∷ d ∷ [])
       (appended old two three (a ∷ b ∷ []) (c ∷ []) (a ∷ b ∷ c ∷ [])
-      (appended old one two (a ∷ []) (b ∷ []) (a ∷ b ∷ []) p q refl) r refl) s refl
+      (appended old one two (a ∷ []) (b ∷ []) (a ∷ b ∷ []) p q refl) r refl) s refl) t refl
 
   -- four parts that were appended to nothing, one after another
   pub all_appended : (none one two three four a b c d : List A) → none ≡ [] → one ≡ none ++ a → two ≡ one ++ b → three ≡ two ++ c
@@ -47,16 +48,17 @@ words_more word n = ap (words_from word 0) (let e : n + 1 ≡ suc n = omega arit
 fields_suc : (field : ℕ → ℕ → ℕ) (low n : ℕ) → fields_from field low (suc n) ≡ fields_from field low n ++ fields_from field (low + n) 1
 unfolding fields_from
 fields_suc field low zero = ap (λ k. fields_from field k 1) (let e : low ≡ low + 0 = omega arith in e)
-fields_suc field low (suc n) = ap (λ (l : List ℕ). field low 0 ∷ field low 1 ∷ field low 2 ∷ field low 3 ∷ l) (fields_suc field (low + 1) n
+fields_suc field low (suc n) = ap (λ (l : List ℕ). field low 0 ∷ field low 1 ∷ field low 2 ∷ field low 3 ∷ field low 4 ∷ l)
+    (fields_suc field (low + 1) n
     ∙ ap (λ k. fields_from field (low + 1) n ++ fields_from field k 1) (let e : low + 1 + n ≡ low + suc n = omega arith in e))
 
 pub fields_more : (field : ℕ → ℕ → ℕ) (n : ℕ) → fields_from field 1 (n + 1) ≡ fields_from field 1 n ++ fields_from field (n + 1) 1
 fields_more field n = ap (fields_from field 1) (let e : n + 1 ≡ suc n = omega arith in e) ∙ (fields_suc field 1 n
     ∙ ap (λ k. fields_from field 1 n ++ fields_from field k 1) (let e : 1 + n ≡ n + 1 = omega arith in e))
 
-four_fields : (field : ℕ → ℕ → ℕ) (n : ℕ) → fields_from field n 1 ≡ field n 0 ∷ field n 1 ∷ field n 2 ∷ field n 3 ∷ []
+five_fields : (field : ℕ → ℕ → ℕ) (n : ℕ) → fields_from field n 1 ≡ field n 0 ∷ field n 1 ∷ field n 2 ∷ field n 3 ∷ field n 4 ∷ []
 unfolding fields_from
-four_fields field n = refl
+five_fields field n = refl
 
 -- one more word, and the fields of one more record
 pub word_appended : (word : ℕ → ℕ) (old now new : List ℕ) (n w : ℕ) → now ≡ old ++ words_from word 0 n → new ≡ now ++ w ∷ [] → w ≡ word n
@@ -69,13 +71,17 @@ pub fields_appended : (field : ℕ → ℕ → ℕ) (old now new : List ℕ) (n 
 fields_appended field old now new n was is = appended old now new (fields_from field 1 n) (fields_from field (n + 1) 1)
     (fields_from field 1 (n + 1)) was is (fields_more field n)
 
-pub one_record : (field : ℕ → ℕ → ℕ) (old one two three four : List ℕ) (n a b c d : ℕ) → one ≡ old ++ a ∷ [] → two ≡ one ++ b ∷ []
-    → three ≡ two ++ c ∷ [] → four ≡ three ++ d ∷ [] → a ≡ field n 0 → b ≡ field n 1 → c ≡ field n 2 → d ≡ field n 3
-    → four ≡ old ++ fields_from field n 1
-one_record field old one two three four n a b c d p q r s key value left right =
-    four_appended old one two three four (field n 0) (field n 1) (field n 2) (field n 3) (p ∙ ap (λ k. old ++ k ∷ []) key)
+pub one_record : (field : ℕ → ℕ → ℕ) (old one two three four five : List ℕ) (n a b c d e : ℕ) → one ≡ old ++ a ∷ []
+    → two ≡ one ++ b ∷ []
+    → three ≡ two ++ c ∷ [] → four ≡ three ++ d ∷ [] → five ≡ four ++ e ∷ [] → a ≡ field n 0 → b ≡ field n 1 → c ≡ field n 2
+    → d ≡ field n 3 → e ≡ field n 4
+    → five ≡ old ++ fields_from field n 1
+one_record field old one two three four five n a b c d e p q r s t key value left right high =
+    five_appended old one two three four five (field n 0) (field n 1) (field n 2) (field n 3) (field n 4)
+    (p ∙ ap (λ k. old ++ k ∷ []) key)
     (q ∙ ap (λ k. one ++ k ∷ []) value) (r ∙ ap (λ k. two ++ k ∷ []) left) (s ∙ ap (λ k. three ++ k ∷ []) right)
-    ∙ ap (λ (l : List ℕ). old ++ l) (sym (four_fields field n))
+    (t ∙ ap (λ k. four ++ k ∷ []) high)
+    ∙ ap (λ (l : List ℕ). old ++ l) (sym (five_fields field n))
 
 pub no_words : (word : ℕ → ℕ) → words_from word 0 0 ≡ []
 unfolding words_from
@@ -90,7 +96,7 @@ unfolding words_from
 length_words word low zero = refl
 length_words word low (suc n) = ap suc (length_words word (low + 1) n)
 
-pub length_fields : (field : ℕ → ℕ → ℕ) (low n : ℕ) → length (fields_from field low n) ≡ 4 * n
+pub length_fields : (field : ℕ → ℕ → ℕ) (low n : ℕ) → length (fields_from field low n) ≡ 5 * n
 unfolding fields_from
 length_fields field low zero = refl
 length_fields field low (suc n) = let was = length_fields field (low + 1) n in omega arith
@@ -121,8 +127,8 @@ module _ (sentinels : ℕ) (head : ℕ → ℕ) (field : ℕ → ℕ → ℕ) (z
   -- the words with which a pool opens, region by region; the code has counted the sentinels
   pub all_words : (none low heads fields all : List ℕ) (counted : ℕ) → none ≡ [] → low ≡ none ++ replicate (1 + 17 * z.passes) 0
       → heads ≡ low ++ words_from head 0 z.heads → fields ≡ heads ++ fields_from field 1 sentinels
-      → all ≡ fields ++ replicate (4 * (z.records - counted)) 0 → counted ≡ sentinels → all ≡ opening_words sentinels head field z
+      → all ≡ fields ++ replicate (5 * (z.records - counted)) 0 → counted ≡ sentinels → all ≡ opening_words sentinels head field z
   unfolding opening_words
   all_words none low heads fields all counted n p q r s is = all_appended none low heads fields all (replicate (1 + 17 * z.passes) 0)
-      (words_from head 0 z.heads) (fields_from field 1 sentinels) (replicate (4 * (z.records - sentinels)) 0) n p q r
-      (s ∙ ap (λ k. fields ++ replicate (4 * (z.records - k)) 0) is)
+      (words_from head 0 z.heads) (fields_from field 1 sentinels) (replicate (5 * (z.records - sentinels)) 0) n p q r
+      (s ∙ ap (λ k. fields ++ replicate (5 * (z.records - k)) 0) is)

@@ -14,6 +14,7 @@ use Rattle.pp_rule.specs.declared.views.SeatView.{SeatView}
 use Rattle.pp_rule.specs.Steps.{order_of}
 use Rattle.pp_rule.specs.Ties.{Runs}
 use Rattle.pp_rule.specs.Closing.{spare}
+use Rattle.pp_rule.specs.Alone.{IsOwnStep}
 use Rattle.pp_base.specs.Passes.{known, view, Fits}
 
 module _ {E A W : Type 0} where
@@ -32,11 +33,13 @@ module _ {E A W : Type 0} where
     pub orders : (s : Seat Unit (SeatView E A W)) → IsIn s seats → IsIn (order_of (view s)) (order_of v ∷ v.kept)
     pub longest : (s : Seat Unit (SeatView E A W)) × (IsIn s seats × (v.order ≡ (view s).order))
 
-  -- The end of the pool of these passes, by the view v of its witness. A shape says what the pairs and the live numbers of closed
-  -- words are, how many live numbers there are with so many pairs, and what the log tells of them and of the placed calls.
-  pub record IsClosedPool (opens : List ℕ) (pairs : Sizes → List ℕ → List Pair) (alive : Sizes → List ℕ → List ℕ) (live_count : ℕ → ℕ)
-      (tells : Sizes → List E → List Pair → Type 0) (tells_pass : Sizes → List E → ℕ → List A → Type 0) (z : Sizes)
-      (seats : List (Seat Unit (SeatView E A W))) (contents : List Pair) (free : List ℕ) (v : SeatView E A W) : Type 0 where
+  -- The end of the pool of these passes, by its witness: the live numbers, and a view v of all steps. A shape says what the
+  -- contents and the live numbers of closed words are, how many live numbers there are with so many pairs, what the log tells
+  -- of them and of the placed calls, and to which pass a change belongs.
+  pub record IsClosedPool (opens : List ℕ) (gathered : Sizes → List ℕ → List Pair → List ℕ → Type 0) (live_count : ℕ → ℕ)
+      (tells : Sizes → List E → List Pair → Type 0) (tells_pass : Sizes → List E → ℕ → List A → Type 0)
+      (caller : E → ℕ) (z : Sizes)
+      (seats : List (Seat Unit (SeatView E A W))) (contents : List Pair) (free live : List ℕ) (v : SeatView E A W) : Type 0 where
     -- the witness stands for no pass
     pub standing : v.standing ≡ false
     -- the words that stood in the table at its end
@@ -47,17 +50,19 @@ module _ {E A W : Type 0} where
     pub all : v.known ∷ v.taken ≡ map known seats
     -- each step was made by a pass
     pub made : (s : LoggedStep E A) → IsIn s v.order → s.entry.pass < z.passes
+    -- the changes of each step are those of its pass
+    pub own : (s : LoggedStep E A) → IsIn s v.order → IsOwnStep caller s
     -- what each pass had seen begins the order, and has all steps of the pass
     pub each : (s : Seat Unit (SeatView E A W)) → IsIn s seats → BeginsWith v.order (view s).order
         × (made_by (known s).number (view s).order ≡ made_by (known s).number v.order)
     -- some pass had seen it all
     pub longest : (s : Seat Unit (SeatView E A W)) × (IsIn s seats × (v.order ≡ (view s).order))
-    pub contents_are : contents ≡ pairs z words
+    pub contents_are : gathered z words contents live
     pub told : tells z (log_of v.order) contents
     pub told_pass : (p : ℕ) → p < z.passes → tells_pass z (log_of v.order) p (placed_by p v.order)
     -- each record is live or free, once, and no other number is either
-    pub once : (n : ℕ) → IsNumber z n → times n (alive z words) + times n free ≡ 1
-    pub no_other : (n : ℕ) → (n ≡ 0) ⊎ (z.records < n) → times n (alive z words) + times n free ≡ 0
-    pub live_are : length (alive z words) ≡ live_count (length contents)
+    pub once : (n : ℕ) → IsNumber z n → times n live + times n free ≡ 1
+    pub no_other : (n : ℕ) → (n ≡ 0) ⊎ (z.records < n) → times n live + times n free ≡ 0
+    pub live_are : length live ≡ live_count (length contents)
     -- the free numbers rise
-    pub free_are : free ≡ spare (alive z words) 1 z.records
+    pub free_are : free ≡ spare live 1 z.records

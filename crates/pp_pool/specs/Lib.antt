@@ -4,3 +4,4 @@ pub mod Rooms
 pub mod Taken
 pub mod PurseRooms
 pub mod Opened
+pub mod Noted

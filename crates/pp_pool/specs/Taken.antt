@@ -1,9 +1,13 @@
 -- The records that a pass took from its free list, and what becomes of its purse as they are taken and spent.
-use Rattle.std.specs.Prelude.{◌≡◌, ℕ, ◌+◌, ◌-◌, ◌^◌, ◌<◌, ◌≤◌, min, [], ◌∷◌, ◌++◌, length, vec_capacity}
+use Rattle.std.specs.Prelude.{◌≡◌, ℕ, ◌+◌, ◌-◌, ◌/◌, ◌%◌, ◌^◌, ◌<◌, ◌≤◌, min, [], ◌∷◌, ◌++◌, length, vec_capacity}
+use Rattle.atomic_table.specs.declared.shared.Seat.{Seat}
+use Rattle.pp_link.specs.declared.layout.Sizes.{Sizes}
 use Rattle.pp_link.specs.declared.layout.Field.{Field}
 use Rattle.pp_link.specs.declared.layout.Field.TheVariants as fields
 use Rattle.pp_rule.specs.Lists.{times}
 use Rattle.pp_rule.specs.declared.views.PassState.{PassState}
+use Rattle.pp_rule.specs.declared.views.SeatView.{SeatView}
+use Rattle.pp_base.specs.Made.{WroteOwned}
 use Rattle.pp_base.specs.declared.purse.Purse.{Purse}
 use Rattle.pp_base.specs.declared.source.Side.{Side}
 use Rattle.pp_base.specs.declared.source.Side.TheVariants.{Left, Right}
@@ -14,8 +18,8 @@ module _ {W : Type 0} where
   abbrev pub IsPrivate : PassState W → Purse → ℕ → Type 0
   IsPrivate q p n = times n p.free.items < times n (owned_numbers q)
 
-  -- A step of the pass has published the record n since it was taken, so it isn't private any more, and more records count as taken
-  -- than are private.
+  -- A step of the pass has published the record n since it was taken, so it isn't private any more, and more records count as
+  -- taken than are private.
   pub record IsPublished (q : PassState W) (p : Purse) (n : ℕ) : Type 0 where
     pub gone : times n (owned_numbers q) ≤ times n p.free.items
     pub untold : length q.owned < length p.free.items + p.taken
@@ -50,3 +54,9 @@ one_fewer_out p = record p { taken = p.taken - 1 }
 abbrev pub link_field : Side → Field
 link_field Left = fields.Left
 link_field Right = fields.Right
+
+-- The two halves of a value are stored in a record that the pass owns, the low one first.
+pub record WroteValue {E A W : Type 0} (z : Sizes) (n value : ℕ) (s s' : Seat Unit (SeatView E A W)) : Type 0 where
+  pub middle : Seat Unit (SeatView E A W)
+  pub low : WroteOwned z n fields.Value (value % 2 ^ 64) s middle
+  pub high : WroteOwned z n fields.High (value / 2 ^ 64) middle s'

@@ -25,8 +25,16 @@ use pp_rule::Shape;
 use pp_rule::views::SeatView;
 use std::alloc::{AllocError, Global};
 
+/// What a closed pool keeps of its run for contracts to see: a seat that stands for no pass, whose view has all steps, and the
+/// numbers of the records that were live at the end.
+#[derive(Drop)]
+pub struct Witness<S: Shape> {
+    pub seat: Seat<(), SeatView<S::Entry, S::Said, S::Own>>,
+    pub live: Vec<u32>,
+}
+
 /// Closes a pool over all its passes, given by rising numbers: the contents of its closed words, the numbers of all records
-/// that aren't live, rising, and a seat that stands for no pass, whose view is the run of the pool as contracts read it.
+/// that aren't live, rising, and a witness of the run as contracts read it.
 /// The passes are idle, so no call is going on, and no record that was taken is out.
 ///
 /// # Errors
@@ -36,13 +44,13 @@ pub fn close<S: Shape>(
     alloc: Global,
     pool: Pool<S>,
     passes: Vec<Pass<S>>,
-) -> Result<Closed<Seat<(), SeatView<S::Entry, S::Said, S::Own>>>, CloseFault<Pool<S>, Pass<S>>>
+) -> Result<Closed<Witness<S>>, CloseFault<Pool<S>, Pass<S>>>
     requires all { length passes.items ≡ pool.layout.passes }
     requires each { AtEach passes.items (λ k p. IsSeatOf pool.table.shared.table_id pool.layout k p.seat) }
     requires idle { AtEach passes.items (λ k p. IsIdle p.walk p.purse) }
     ensures closed { IfOk result (λ c. IsClosedPool (opening_words S.SENTINELS S.first_head S.first_field pool.layout)
-        S.pairs S.alive S.live_count S.tells S.tells_pass pool.layout (map (λ p. p.seat) passes.items)
-        c.contents.items c.free.items (view c.witness)) }
+        S.gathered S.live_count S.tells S.tells_pass S.caller_of pool.layout (map (λ p. p.seat) passes.items)
+        c.contents.items c.free.items c.witness.live.items (view c.witness.seat)) }
     ensures back { IfErr result (λ e. (e.map ≡ pool) × (e.passes.items ≡ passes.items)) }
 {
     let layout = pool.layout;
@@ -58,10 +66,10 @@ pub fn close<S: Shape>(
         mut marks,
     } = room;
     let seat = join_all(&pool, passes);
-    let witness = end_table(pool, seat, &mut words);
+    let seat = end_table(pool, seat, &mut words);
     S::gather(&layout, &words, &mut contents, &mut live);
     enter_spare(&live, sizes.records, &mut marks, &mut free);
-    Ok(Closed::new(contents, free, witness))
+    Ok(Closed::new(contents, free, Witness { seat, live }))
 }
 
 /// The lists that closing fills, with room for all that comes, and a mark for each number.

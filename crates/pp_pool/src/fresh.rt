@@ -4,12 +4,15 @@ ghost use Rattle.std.specs.Prelude.{◌≡◌, [], IfSome, IfNone};
 ghost use Rattle.pp_link.specs.Links.{word_of};
 ghost use Rattle.pp_base.specs.Passes.{known, owned_numbers, Fits, IsSame};
 ghost use Rattle.pp_base.specs.Made.{WroteOwned};
-ghost use Rattle.pp_pool.specs.Taken.{IsPrivate, IsPublished, Took, GaveBack, one_fewer_out, link_field};
+ghost use Rattle.pp_pool.specs.Taken.{IsPrivate, IsPublished, WroteValue, Took, GaveBack, one_fewer_out, link_field};
 
 use pp_base::private::write;
 use pp_base::{Pass, Pool, Side};
 use pp_link::{Field, Link};
 use pp_rule::Shape;
+
+/// A value's low half is below it.
+const HALF: u128 = 18446744073709551616;
 
 /// A record that was taken from the free list of a pass: private to it until it is published or given back. One that is
 /// dropped stays out, so its pass is never idle again, and can't be closed.
@@ -82,18 +85,25 @@ pub fn set_key<S: Shape>(pool: &Pool<S>, pass: &mut Pass<S>, fresh: &Fresh, key:
     write(pool, pass, fresh.number, Field::Key, key);
 }
 
-/// Stores the value of a private record.
-pub fn set_value<S: Shape>(pool: &Pool<S>, pass: &mut Pass<S>, fresh: &Fresh, value: u64)
+/// Stores the value of a private record, its low half first.
+pub fn set_value<S: Shape>(pool: &Pool<S>, pass: &mut Pass<S>, fresh: &Fresh, value: u128)
     requires fits { Fits pool.now.table.shared.table_id pool.now.layout pass.old.seat }
     requires private { IsPrivate (known pass.old.seat) pass.old.purse fresh.now.number }
     ensures same { IsSame pass.old.seat pass.new.seat }
-    ensures wrote { WroteOwned pool.now.layout fresh.now.number Field.Value value pass.old.seat pass.new.seat }
+    ensures wrote { WroteValue pool.now.layout fresh.now.number value pass.old.seat pass.new.seat }
     ensures owned { owned_numbers (known pass.new.seat) ≡ owned_numbers (known pass.old.seat) }
     ensures private { IsPrivate (known pass.new.seat) pass.new.purse fresh.now.number }
     ensures walk { pass.new.walk ≡ pass.old.walk }
     ensures purse { pass.new.purse ≡ pass.old.purse }
 {
-    write(pool, pass, fresh.number, Field::Value, value);
+    write(
+        pool,
+        pass,
+        fresh.number,
+        Field::Value,
+        (value % HALF) as u64,
+    );
+    write(pool, pass, fresh.number, Field::High, (value / HALF) as u64);
 }
 
 /// Stores a link of a private record.

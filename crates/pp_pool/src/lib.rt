@@ -2,10 +2,14 @@
 //! is closed over all its passes.
 #![tactic(auto)]
 
+pub mod carried;
 pub mod closing;
 pub mod fresh;
+pub mod notes;
 pub mod opening;
 
-pub use closing::close;
+pub use carried::Note;
+pub use closing::{Witness, close};
 pub use fresh::{Fresh, give_back, published, set_key, set_link, set_value, take};
+pub use notes::{learn, note};
 pub use opening::make_pool;

@@ -50,7 +50,7 @@ fn add_heads<S: Shape>(words: &mut Vec<u64>, count: u32)
 /// Appends the fields of a sentinel.
 fn add_sentinel<S: Shape>(words: &mut Vec<u64>, number: u32)
     requires sentinel { (1 ≤ number) × (number ≤ S.SENTINELS) }
-    requires room { length words.old.items + 4 ≤ vec_capacity words.old }
+    requires room { length words.old.items + 5 ≤ vec_capacity words.old }
     ensures words { words.new.items ≡ words.old.items ++ fields_from S.first_field number 1 }
     ensures room { vec_capacity words.old ≤ vec_capacity words.new }
 {
@@ -58,11 +58,12 @@ fn add_sentinel<S: Shape>(words: &mut Vec<u64>, number: u32)
     enter(words, S::opening(number, Field::Value));
     enter(words, S::opening(number, Field::Left));
     enter(words, S::opening(number, Field::Right));
+    enter(words, S::opening(number, Field::High));
 }
 
 /// Appends the fields of the sentinels.
 fn add_sentinels<S: Shape>(words: &mut Vec<u64>)
-    requires { length words.old.items + 4 * S.SENTINELS ≤ vec_capacity words.old }
+    requires { length words.old.items + 5 * S.SENTINELS ≤ vec_capacity words.old }
     ensures words { words.new.items ≡ words.old.items ++ fields_from S.first_field 1 S.SENTINELS }
     ensures room { vec_capacity words.old ≤ vec_capacity words.new }
 {
@@ -78,8 +79,8 @@ fn make_words<S: Shape>(alloc: Global, sizes: Sizes) -> Result<Vec<u64>, NoMemor
     ensures { IfOk result (λ words. words.items ≡ opening_words S.SENTINELS S.first_head S.first_field sizes) }
 {
     let low = 1 + 17 * sizes.passes;
-    let others = 4 * (sizes.records - S::SENTINELS);
-    let total = low + sizes.heads + 4 * sizes.records;
+    let others = 5 * (sizes.records - S::SENTINELS);
+    let total = low + sizes.heads + 5 * sizes.records;
     let Ok(mut words) = Vec::with_capacity(alloc, total as usize) else {
         return Err(NoMemory);
     };

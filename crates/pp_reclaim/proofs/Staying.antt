@@ -5,7 +5,7 @@ use Rattle.std.proofs.Math.Bool.{false≢true}
 use Rattle.std.proofs.Math.Decide.{ℕ_discrete}
 use Rattle.std.proofs.lemmas.Bool.{lt-ltb, le-ltb}
 use mathlib.Core.Logic.{dite}
-use mathlib.Core.Option.{some, some-ne-none, some-injective}
+use mathlib.Core.Option.{some, some-ne-none}
 use lib.ListN.{get_elem?}
 use Rattle.pp_link.specs.declared.layout.Sizes.{Sizes}
 use Rattle.pp_link.specs.Places.{frontier_place, walk_place}
@@ -14,7 +14,8 @@ use Rattle.pp_rule.proofs.Put.{in_nil, in_first, in_later, in_cases, in_either, 
 use Rattle.pp_rule.proofs.Without.{once_tail, once_head}
 use Rattle.pp_base.specs.Named.{NamedStep, scans_frontier, scans_walk}
 use Rattle.pp_base.specs.Scans.{is_named, chosen, rejected}
-use Rattle.pp_base.proofs.Numbered.{times_length}
+use Rattle.pp_rule.proofs.Times.{times_length}
+use Rattle.pp_base.proofs.Named.{in_turn_at}
 use Rattle.pp_reclaim.specs.Sweeps.{in_turn, WasNamed}
 
 -- a number is named where it is one of the words
@@ -103,15 +104,6 @@ module _ (load : ℕ → ℕ → NamedStep) where
   length_in_turn place [] = refl
   length_in_turn place (word ∷ words) = ap suc (length_in_turn (place + 1) words)
 
-  -- the load at this index found the word at this index
-  at_in_turn : (place : ℕ) (words : List ℕ) (k word : ℕ) → get_elem? words k ≡ some word
-      → get_elem? (in_turn load place words) k ≡ some (load (place + k) word)
-  at_in_turn place [] k word e = absurd (some-ne-none word (sym e))
-  at_in_turn place (first ∷ words) zero word e = let at : place ≡ place + 0 = omega arith in
-      ap (λ (n : ℕ). some (load place n)) (some-injective first word e) ∙ ap (λ (p : ℕ). some (load p word)) at
-  at_in_turn place (first ∷ words) (suc k) word e = let at : place + 1 + k ≡ place + suc k = omega arith in
-      at_in_turn (place + 1) words k word e ∙ ap (λ (p : ℕ). some (load p word)) at
-
 module _ (z : Sizes) (fronts walks : List ℕ) (n : ℕ) (all_fronts : length fronts ≡ 4 * z.passes)
     (all_walks : length walks ≡ 5 * z.passes) where
   abbrev firsts : List NamedStep
@@ -129,7 +121,7 @@ module _ (z : Sizes) (fronts walks : List ℕ) (n : ℕ) (all_fronts : length fr
     k = k;
     low = omega (arith, first);
     word = at_left fronts walks k n e;
-    load = at_left firsts seconds k _ (at_in_turn scans_frontier (frontier_place z 0 0) fronts k n e)
+    load = at_left firsts seconds k _ (in_turn_at scans_frontier (frontier_place z 0 0) fronts k n e)
         ∙ ap (λ (b : Bool). some (load_by k b)) (sym (lt-ltb k (4 * z.passes) first));
   }
 
@@ -141,7 +133,7 @@ module _ (z : Sizes) (fronts walks : List ℕ) (n : ℕ) (all_fronts : length fr
         word = at_right fronts walks (4 * z.passes + k) k n (omega (arith, all_fronts)) e;
         load = at_right firsts seconds (4 * z.passes + k) k _
             (omega (arith, all_fronts, length_in_turn scans_frontier (frontier_place z 0 0) fronts))
-            (at_in_turn scans_walk (walk_place z 0 0) walks k n e)
+            (in_turn_at scans_walk (walk_place z 0 0) walks k n e)
             ∙ (ap (λ (m : ℕ). some (scans_walk (walk_place z 0 0 + m) n)) behind
             ∙ ap (λ (b : Bool). some (load_by (4 * z.passes + k) b)) (sym (le-ltb (4 * z.passes + k) (4 * z.passes) (omega arith))));
       }

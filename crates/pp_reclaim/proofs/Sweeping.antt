@@ -1,6 +1,7 @@
 -- What a reclaim pass has freed after its last load.
 use Rattle.std.proofs.Common.{◌≡◌, ℕ, ◌+◌, ◌-◌, ◌*◌, ◌≤◌, Bool, cond, List, [], ◌∷◌, ◌++◌, map, length, take, refl, sym, ap, ◌∙◌, subst}
 use Rattle.std.proofs.Common.{append_assoc, length-append, eq-eqb, arith}
+use Rattle.std.proofs.Math.Bool.{false≢true}
 use Rattle.std.specs.List.Sorted.{IsPermutation}
 use Rattle.std.proofs.lemmas.List.{length-map}
 use Rattle.std.proofs.lemmas.List.Sorted.{IsPermutation-refl}
@@ -20,9 +21,8 @@ use Rattle.pp_base.specs.Passes.{known, view}
 use Rattle.pp_base.specs.Scans.{ScannedLast, GotBack, is_named, chosen, rejected}
 use Rattle.pp_base.proofs.Parted.{rejected_words, chosen_without}
 use Rattle.pp_base.specs.Named.{scans_frontier, scans_walk, MadeOne}
-use Rattle.pp_base.proofs.Named.{made_append}
+use Rattle.pp_base.proofs.Named.{made_append, made_in_turn}
 use Rattle.pp_reclaim.specs.Sweeps.{in_turn, HasReadMost, Swept, swept}
-use Rattle.pp_reclaim.proofs.Reading.{loads_more}
 use Rattle.pp_reclaim.proofs.Staying.{chosen_in, rejected_out, no_longer, was_named}
 
 -- all but the last of the words
@@ -51,8 +51,8 @@ last_one found place v w last = record {
   known = reclaimed found last.freed v.known;
   left = found;
   number = refl;
-  owned = λ other. absurd (other refl);
-  leaves = λ _ _. refl;
+  owned = λ bad. absurd (false≢true (sym bad));
+  leaves = λ _. refl;
   made = last.made;
 }
 
@@ -112,7 +112,7 @@ module _ {E A W : Type 0} (z : Sizes) (words : List ℕ) (s s' : Seat Unit (Seat
           all_walks = all_walks;
           steps = made_append (in_turn scans_frontier (frontier_place z 0 0) h.fronts)
               (in_turn scans_walk (walk_place z 0 0) (h.walks ++ found ∷ [])) (view s) (view h.between) (view s'') h.first.steps
-              (loads_more scans_walk (walk_place z 0 0) h.walks found (view h.between) (view s') (view s'') h.second.steps
+              (made_in_turn scans_walk (walk_place z 0 0) h.walks found (view h.between) (view s') (view s'') h.second.steps
               (subst (λ (k : ℕ). MadeOne (scans_walk k found) (view s') (view s'')) at
               (last_one found (walk_place z (z.passes - 1) 4) (view s') (view s'') last)));
           freed = last.freed;

@@ -1,5 +1,5 @@
 -- What a reclaim pass reads and what it frees.
-use Rattle.std.specs.Prelude.{◌≡◌, ℕ, ◌+◌, ◌*◌, ◌-◌, ◌<◌, ◌≤◌, cond, nat_lt, List, [], ◌∷◌, ◌++◌, map, length, take}
+use Rattle.std.specs.Prelude.{◌≡◌, ℕ, ◌+◌, ◌*◌, ◌-◌, ◌<◌, ◌≤◌, cond, nat_lt, List, [], ◌++◌, map, length, take}
 use lib.ListN.{get_elem?}
 use mathlib.Core.Option.{some}
 use Rattle.atomic_table.specs.declared.shared.Seat.{Seat}
@@ -15,16 +15,12 @@ use Rattle.pp_base.specs.declared.purse.Purse.{Purse}
 use Rattle.pp_base.specs.Passes.{known, view, IsSame}
 use Rattle.pp_unlink.specs.Invalidation.{Flushed, SameFree}
 use Rattle.pp_base.specs.Named.{NamedStep, scans_frontier, scans_walk, Made}
+pub use Rattle.pp_base.specs.Named.{in_turn}
 use Rattle.pp_base.specs.Scans.{GotBack, is_named, chosen, rejected}
 
 -- what the pass knows after a reclaim pass: these records came to it, and these numbers stay retired
 abbrev pub swept : {W : Type 0} → List PrivateRecord → List ℕ → PassState W → PassState W
 swept freed stay q = record q { owned = q.owned ++ freed; retired = stay; scan = record { read = 0; left = [] } }
-
--- the loads that found these words, each at the place after the one before, from this place on
-abbrev pub in_turn : (ℕ → ℕ → NamedStep) → ℕ → List ℕ → List NamedStep
-in_turn load place [] = []
-in_turn load place (word ∷ words) = load place word ∷ in_turn load (place + 1) words
 
 -- the loads of a reclaim pass: the frontier words of all passes, and then their walk words
 abbrev pub scan_steps : Sizes → List ℕ → List ℕ → List NamedStep

@@ -5,3 +5,4 @@ pub mod PrintedTexts
 pub mod Tellings
 pub mod Finishes
 pub mod PlainRuns
+pub mod Completeness

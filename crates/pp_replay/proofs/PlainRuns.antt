@@ -10,7 +10,7 @@ use Rattle.std.proofs.Math.ListN.{get_or}
 use Rattle.pp_model.specs.declared.Answer.{Answer}
 use Rattle.pp_model.specs.declared.Answer.TheVariants.{Said, Full, Lost}
 use Rattle.pp_model.specs.declared.Call.{Call}
-use Rattle.pp_model.specs.declared.Call.TheVariants.{Get, Insert, Remove}
+use Rattle.pp_model.specs.declared.Call.TheVariants.{Get, Insert, Remove, Cut}
 use Rattle.pp_model.specs.declared.Change.{Change}
 use Rattle.pp_model.specs.declared.Pair.{Pair}
 use Rattle.pp_model.specs.declared.Placed.{Placed}
@@ -75,6 +75,11 @@ one_more m (Insert k v) None = omega (arith, length-put m k v)
 one_more m (Insert k v) (Some w) = omega arith
 one_more m (Remove k) None = omega arith
 one_more m (Remove k) (Some w) = omega (arith, length-drop_key-le m k)
+one_more m (Cut k v) None = omega arith
+one_more m (Cut k v) (Some w) =
+    ⊎_elim (λ (same : nat_eq w v ≡ true). rw same (omega (arith, length-drop_key-le m k)))
+    (λ (other : nat_eq w v ≡ false). rw other (omega arith))
+    (cases_Bool (nat_eq w v))
 
 few_pairs : (m : List Pair) (log : List Change) → length (run_from m log) ≤ length m + length log
 few_pairs m [] = omega arith
@@ -113,9 +118,13 @@ module _ (settings : Settings) (lists : List (List Call)) (answers : List (List 
         → IsCaller plain_meaning (plain_sizes settings.records) settings.races run c pass (list_for c got at).0 got
     chain c got at = ran.each c pass (list_for c got at).0 got (let zero_is = only c got at in rw zero_is refl) (list_for c got at).1 at
 
-    shares : (c : ℕ) (p : PassView) → slice_get (pass ∷ []) c ≡ Some p → p.share ≡ share_of settings c
+    dealt_all : dealt settings.map run.sizes ≡ settings.records
+    dealt_all = ap (λ k. dealt k run.sizes) plain ∙ ap (λ z. z.records) ran.sizes_are
+
+    shares : (c : ℕ) (p : PassView) → slice_get (pass ∷ []) c ≡ Some p → p.share ≡ share_of settings.map run.sizes c
     shares zero p at = let same : pass ≡ p = cc in ap (λ q. q.share) (sym same)
-        ∙ (share ∙ sym (whole_share (dealt settings settings.map) settings.callers settings.records (ap (dealt settings) plain) alone))
+        ∙ (share ∙ sym (whole_share (dealt settings.map run.sizes) run.sizes.passes settings.records dealt_all
+        (ap (λ z. z.passes) ran.sizes_are)))
     shares (suc c) p at = absurd cc
 
     sizes_are : sizes_of settings ≡ plain_sizes settings.records
@@ -126,12 +135,12 @@ module _ (settings : Settings) (lists : List (List Call)) (answers : List (List 
         (ap meaning_of plain))
         (subst (λ (z : MapSizes). IsRunOf plain_meaning z settings.races (pass ∷ []) lists answers run) (sym sizes_are) ran)
 
-    enough_for : (c : ℕ) (calls : List Call) → c ≡ 0 → (meaning_of settings.map).need * inserts calls ≤ share_of settings c
+    enough_for : (c : ℕ) (calls : List Call) → c ≡ 0 → (meaning_of settings.map).need * inserts calls ≤ share_of settings.map run.sizes c
         → 1 * inserts calls ≤ pass.share
     enough_for c calls first enough =
         let need : (meaning_of settings.map).need * inserts calls ≡ 1 * inserts calls =
         ap (λ (n : ℕ). n * inserts calls) (ap (λ k. (meaning_of k).need) plain) in
-        let own : pass.share ≡ share_of settings c = shares c pass (rw first refl) in
+        let own : pass.share ≡ share_of settings.map run.sizes c = shares c pass (rw first refl) in
         omega (arith, enough, need, own)
 
     pub under : IsRunUnder settings lists answers run

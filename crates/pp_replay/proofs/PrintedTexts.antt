@@ -12,21 +12,23 @@ use Rattle.pp_trace.specs.Printing.{Waiting, Broke, Printing, Puts}
 use Rattle.pp_trace.proofs.Buffered.{Appends-ended, GrewByPrefix-ended, GrewByPrefix-broke, Rose-since, Puts-then, Puts-longer}
 use Rattle.pp_replay.specs.Printed.{IsPrinted}
 
-module _ {K : Type 0} {written : K → Option (List ℕ)} {faults : K → ℕ} {s0 s1 s2 : K} {p0 p1 p2 : Waiting} where
+module _ {K : Type 0} {written : K → Option (List ℕ)} {faults : K → ℕ} {Writes : K → K → List ℕ → Result ℕ Failed → Type 0}
+    {s0 s1 s2 : K} {p0 p1 p2 : Waiting} where
   -- one more piece
-  pub Puts-more : (t line u : List ℕ) (r : Result (Unit {0}) Failed) → u ≡ t ++ line → Puts written faults s0 s1 p0 p1 t (Ok tt)
-      → Puts written faults s1 s2 p1 p2 line r → Puts written faults s0 s2 p0 p2 u r
-  Puts-more t line u r e a b = subst (λ (l : List ℕ). Puts written faults s0 s2 p0 p2 l r) (sym e) (Puts-then r a b)
+  pub Puts-more : (t line u : List ℕ) (r : Result (Unit {0}) Failed) → u ≡ t ++ line → Puts written faults Writes s0 s1 p0 p1 t (Ok tt)
+      → Puts written faults Writes s1 s2 p1 p2 line r → Puts written faults Writes s0 s2 p0 p2 u r
+  Puts-more t line u r e a b = subst (λ (l : List ℕ). Puts written faults Writes s0 s2 p0 p2 l r) (sym e) (Puts-then r a b)
 
-module _ {K : Type 0} {written : K → Option (List ℕ)} {faults : K → ℕ} {s0 s1 : K} {p0 p1 : Waiting} where
+module _ {K : Type 0} {written : K → Option (List ℕ)} {faults : K → ℕ} {Writes : K → K → List ℕ → Result ℕ Failed → Type 0}
+    {s0 s1 : K} {p0 p1 : Waiting} where
   -- a piece that broke off is the front of the whole
-  pub Puts-short : (t whole rest : List ℕ) (e : Failed) → whole ≡ t ++ rest → Puts written faults s0 s1 p0 p1 t (Err e)
-      → Puts written faults s0 s1 p0 p1 whole (Err e)
-  Puts-short t whole rest e same a = subst (λ (l : List ℕ). Puts written faults s0 s1 p0 p1 l (Err e)) (sym same) (Puts-longer rest e a)
+  pub Puts-short : (t whole rest : List ℕ) (e : Failed) → whole ≡ t ++ rest → Puts written faults Writes s0 s1 p0 p1 t (Err e)
+      → Puts written faults Writes s0 s1 p0 p1 whole (Err e)
+  Puts-short t whole rest e same a = subst (λ (l : List ℕ). Puts written faults Writes s0 s1 p0 p1 l (Err e)) (sym same) (Puts-longer rest e a)
 
   -- a printer that had nothing waiting and broke off printed a prefix
   pub printed_short : (text whole rest : List ℕ) (e : Failed) → p0.waits ≡ [] → whole ≡ text ++ rest
-      → Puts written faults s0 s1 p0 p1 text (Err e)
+      → Puts written faults Writes s0 s1 p0 p1 text (Err e)
       → IsPrinted (written s0) (faults s0) (written s1) (faults s1) whole (Err e)
   printed_short text whole rest e none same a =
       let b = Puts-short text whole rest e same a in
@@ -34,12 +36,13 @@ module _ {K : Type 0} {written : K → Option (List ℕ)} {faults : K → ℕ} {
       (written s1) l p1.waits whole) none b.printed in
       (a.cause.failed, GrewByPrefix-broke c)
 
-module _ {K : Type 0} {written : K → Option (List ℕ)} {faults : K → ℕ} {s0 s1 s2 : K} {p0 p1 : Waiting} where
+module _ {K : Type 0} {written : K → Option (List ℕ)} {faults : K → ℕ} {Writes : K → K → List ℕ → Result ℕ Failed → Type 0}
+    {s0 s1 s2 : K} {p0 p1 : Waiting} where
   -- and one that wrote all that waits printed all
-  pub printed_all : (text left : List ℕ) (r : Result (Unit {0}) Failed) → p0.waits ≡ [] → Puts written faults s0 s1 p0 p1 text (Ok tt)
+  pub printed_all : (text left : List ℕ) (r : Result (Unit {0}) Failed) → p0.waits ≡ [] → Puts written faults Writes s0 s1 p0 p1 text (Ok tt)
       → Printing (written s1) (written s2) p1.waits left [] r → OnOk r (left ≡ []) → HasCause (faults s1) (faults s2) r
       → IsPrinted (written s0) (faults s0) (written s2) (faults s2) text r
-  printed_all text left (Ok u) none a b empty cause = Appends-ended none a b empty
+  printed_all text left (Ok u) none a b empty cause = (Appends-ended none a b empty, cause.kept ∙ a.cause.kept)
   printed_all text left (Err e) none a b empty cause =
       (Rose-since (faults s0) (faults s1) (faults s2) a.cause.later cause.failed, GrewByPrefix-ended none a b)
 

@@ -1,29 +1,36 @@
 -- What the parts of a replay come to.
 use Rattle.std.specs.Prelude.{◌≡◌, ℕ, ◌+◌, ◌<◌, List, Option, Some, None, ⊤}
 use Rattle.std.specs.Io.KnownBytes.{Appends}
-use Rattle.pp_outside.specs.Outside.{Rose, GaveMore, GrewByPrefix}
+use Rattle.pp_outside.specs.Outside.{Rose, GrewByPrefix}
 use Rattle.pp_model.specs.declared.Answer.{Answer}
 use Rattle.pp_trace.specs.declared.Make.{Make}
 use Rattle.pp_trace.specs.Grammar.{bad}
 use Rattle.pp_trace.specs.Text.{count_all, is_full, is_lost}
 use Rattle.pp_replay.specs.declared.ending.Way.{Way}
 use Rattle.pp_replay.specs.declared.ending.Way.TheVariants as way
-use Rattle.pp_replay.specs.Replay.{Device, HasBadLine, WasUnread}
+use Rattle.pp_replay.specs.Replay.{Device, HasBadLine, WasUnread, WasTooLong}
+
+-- no read failed, and with a made trace nothing was read
+pub record WasSpared (make : Option Make) (before after : Device) : Type 0 where
+  pub unfailed : after.faults ≡ before.faults
+  pub unread : (m : Make) → make ≡ Some m → after ≡ before
 
 -- reading the trace, or making it, ended in this way without calls
 abbrev pub HasNoCalls : Way → Option Make → ℕ → Device → Device → Type 0
-HasNoCalls (way.BadLine line why) make callers before after = (make ≡ None) × HasBadLine callers line why before.bytes after.bytes
+HasNoCalls (way.BadLine line why) make callers before after = (make ≡ None) × HasBadLine callers line why before after
 HasNoCalls way.Unread make callers before after = (make ≡ None) × WasUnread before after
-HasNoCalls way.TooLong make callers before after = (make ≡ None) × GaveMore 16777216 before.bytes after.bytes
-HasNoCalls way.NoMemory make callers before after = ⊤
+HasNoCalls way.TooLong make callers before after = (make ≡ None) × WasTooLong before after
+HasNoCalls way.NoMemory make callers before after = WasSpared make before after
 HasNoCalls _ make callers before after = ⊥
 
 -- printing this text ended in this way
 abbrev pub IsFinished : Way → Device → Device → List (List Answer) → List ℕ → Type 0
 IsFinished way.Answered before after answers text =
-    Appends before.bytes after.bytes text × (count_all is_full answers ≡ 0) × (count_all is_lost answers ≡ 0)
+    Appends before.bytes after.bytes text × (after.faults ≡ before.faults)
+    × (count_all is_full answers ≡ 0) × (count_all is_lost answers ≡ 0)
 IsFinished (way.Partly full lost) before after answers text =
-    Appends before.bytes after.bytes text × (count_all is_full answers ≡ full) × (count_all is_lost answers ≡ lost) × (0 < full + lost)
+    Appends before.bytes after.bytes text × (after.faults ≡ before.faults)
+    × (count_all is_full answers ≡ full) × (count_all is_lost answers ≡ lost) × (0 < full + lost)
 IsFinished way.Unwritten before after answers text = Rose before.faults after.faults × GrewByPrefix before.bytes after.bytes text
 IsFinished way.NoMemory before after answers text = after ≡ before
 IsFinished _ before after answers text = ⊥

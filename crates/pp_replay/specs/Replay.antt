@@ -1,8 +1,9 @@
 -- What the ending of a replay means.
-use Rattle.std.specs.Prelude.{◌≡◌, ℕ, ◌+◌, ◌*◌, ◌-◌, ◌/◌, ◌%◌, ◌≤◌, ◌<◌, ◌⊎◌, cond, nat_lt, List, [], ◌++◌, length, Option, Some, None, codes}
+use Rattle.std.specs.Prelude.{◌≡◌, ℕ, ◌+◌, ◌*◌, ◌-◌, ◌/◌, ◌%◌, ◌≤◌, ◌<◌, ◌⊎◌, cond, nat_lt, List, [], ◌++◌, length, Option, Some, None, Result, codes}
 use Rattle.std.specs.Io.KnownBytes.{Appends}
 use Rattle.std.specs.Fmt.{decimal}
-use Rattle.pp_outside.specs.Outside.{Rose, WasAll, GaveMore, GaveAtMost, GrewByPrefix}
+use Rattle.pp_outside.specs.Outside.{Rose, WasAll, GaveMore, GaveAtMost, GrewByPrefix, WroteOn, WroteToFault, OffersAll}
+use Rattle.pp_outside.specs.declared.Failed.{Failed}
 use Rattle.pp_model.specs.declared.Call.{Call}
 use Rattle.pp_model.specs.declared.Answer.{Answer}
 use Rattle.pp_model.specs.declared.Pair.{Pair}
@@ -49,6 +50,13 @@ world source sink = record { source = source; sink = sink }
 
 -- ---- the chosen map
 
+-- the maps that are built
+abbrev pub IsBuilt : Kind → Type 0
+IsBuilt kind.Plain = Unit {0}
+IsBuilt kind.List = ⊥
+IsBuilt kind.Hash = ⊥
+IsBuilt kind.Tree = ⊥
+
 -- what the calls of a map mean by lost turns, causes and live records
 abbrev pub meaning_of : Kind → Meaning
 meaning_of kind.Plain = plain_meaning
@@ -65,23 +73,25 @@ heads_of s kind.Tree = 1
 abbrev pub sizes_of : Settings → MapSizes
 sizes_of s = record { passes = s.callers; records = s.records; heads = heads_of s s.map }
 
--- the records that aren't sentinels
-abbrev pub dealt : Settings → Kind → ℕ
-dealt s kind.Plain = s.records
-dealt s kind.List = s.records
-dealt s kind.Hash = s.records
-dealt s kind.Tree = s.records - 5
+-- the records of a map that aren't sentinels
+abbrev pub dealt : Kind → MapSizes → ℕ
+dealt kind.Plain z = z.records
+dealt kind.List z = z.records
+dealt kind.Hash z = z.records
+dealt kind.Tree z = z.records - 5
 
--- the share of caller c: the records are dealt evenly, and the first callers have one more where they don't divide
-abbrev pub share_of : Settings → ℕ → ℕ
-share_of s c = dealt s s.map / s.callers + cond (nat_lt c (dealt s s.map % s.callers)) 1 0
+-- the share of caller c in a map of these sizes: the records are dealt evenly, and the first callers have one more where they
+-- don't divide
+abbrev pub share_of : Kind → MapSizes → ℕ → ℕ
+share_of map z c = dealt map z / z.passes + cond (nat_lt c (dealt map z % z.passes)) 1 0
 
 -- ---- the calls
 
--- the source was read to its end, and its bytes say these lists
-pub record WasRead (callers : ℕ) (before after : Option (List ℕ)) (lists : List (List Call)) : Type 0 where
+-- the source was read to its end, no read failed, and its bytes say these lists
+pub record WasRead (callers : ℕ) (before after : Device) (lists : List (List Call)) : Type 0 where
   pub bytes : List ℕ
-  pub all : WasAll before after bytes
+  pub all : WasAll before.bytes after.bytes bytes
+  pub unfailed : after.faults ≡ before.faults
   pub within : length bytes ≤ 16777216
   pub says : IsTrace bytes callers lists
 
@@ -91,7 +101,7 @@ pub record WasMade (make : Make) (callers : ℕ) (before after : Device) (lists 
   pub makes : IsMade make.seed make.lines callers lists
 
 abbrev pub HasCalls : Option Make → ℕ → Device → Device → List (List Call) → Type 0
-HasCalls None callers before after lists = WasRead callers before.bytes after.bytes lists
+HasCalls None callers before after lists = WasRead callers before after lists
 HasCalls (Some make) callers before after lists = WasMade make callers before after lists
 
 -- ---- what an answered replay says
@@ -100,22 +110,24 @@ abbrev pub output : Option Make → List (List Answer) → List Pair → List �
 output None answers contents = out answers contents
 output (Some make) answers contents = summary make.lines answers contents
 
--- The calls of these lists were answered by a run of the map that the settings choose, from passes with its shares.
+-- The calls of these lists were answered by a run of the map that the settings choose. The views from which the calls' causes are
+-- told start with the shares that the sizes of the closed map give.
 pub record IsRunUnder (settings : Settings) (lists : List (List Call)) (answers : List (List Answer)) (run : RunView) : Type 0 where
   pub opened : List PassView
-  pub shares : AtEach opened (λ c pass. pass.share ≡ share_of settings c)
+  pub shares : AtEach opened (λ c pass. pass.share ≡ share_of settings.map run.sizes c)
   pub ran : IsRunOf (meaning_of settings.map) (sizes_of settings) settings.races opened lists answers run
   -- no line is full where each caller's share is at least the records that its inserts need
-  pub none_full : AtEach lists (λ c calls. (meaning_of settings.map).need * inserts calls ≤ share_of settings c)
+  pub none_full : AtEach lists (λ c calls. (meaning_of settings.map).need * inserts calls ≤ share_of settings.map run.sizes c)
       → count_all is_full answers ≡ 0
   -- no line is lost with one caller
   pub none_lost : settings.callers ≡ 1 → count_all is_lost answers ≡ 0
 
--- The words say settings; the source, or the made trace, says each caller's calls; the run of the chosen map answered them;
--- and the text is that of the answers and of the map after the whole log.
+-- The words say settings, whose map is built; the source, or the made trace, says each caller's calls; the run of the chosen map
+-- answered them; and the text is that of the answers and of the map after the whole log.
 pub record IsReplay (words : List (List ℕ)) (before after : World) (answers : List (List Answer)) (kept : Option RunView) : Type 0 where
   pub settings : Settings
   pub said_by : settings_of words ≡ Some settings
+  pub built : IsBuilt settings.map
   pub lists : List (List Call)
   pub calls : HasCalls settings.make settings.callers before.source after.source lists
   pub run : RunView
@@ -124,11 +136,12 @@ pub record IsReplay (words : List (List ℕ)) (before after : World) (answers : 
   pub text : List ℕ
   pub text_is : text ≡ output settings.make answers (contents_of run.log)
 
--- everything was written, and so many lines are full and lost
+-- everything was written, no write failed, and so many lines are full and lost
 pub record IsWhole (words : List (List ℕ)) (before after : World) (answers : List (List Answer)) (kept : Option RunView)
     (full lost : ℕ) : Type 0 where
   pub replay : IsReplay words before after answers kept
   pub written : Appends before.sink.bytes after.sink.bytes replay.text
+  pub unfailed : after.sink.faults ≡ before.sink.faults
   pub full_are : count_all is_full answers ≡ full
   pub lost_are : count_all is_lost answers ≡ lost
 
@@ -140,18 +153,20 @@ pub record IsCut (words : List (List ℕ)) (before after : World) (answers : Lis
 
 -- ---- what a refused replay says
 
--- the words say settings under which the source is read; reading came to this, and the sink is as it was
+-- the words say settings whose map is built and under which the source is read; reading came to this, and the sink is as it was
 pub record IsReading (words : List (List ℕ)) (before after : World) (Came : Settings → Type 0) : Type 0 where
   pub settings : Settings
   pub said_by : settings_of words ≡ Some settings
+  pub built : IsBuilt settings.map
   pub reads : settings.make ≡ None
   pub came : Came settings
   pub quiet : after.sink ≡ before.sink
 
--- a line of the trace is bad; this is the first one, with its cause
-pub record HasBadLine (callers line : ℕ) (why : Why) (before after : Option (List ℕ)) : Type 0 where
+-- no read failed, and a line of the trace is bad; this is the first one, with its cause
+pub record HasBadLine (callers line : ℕ) (why : Why) (before after : Device) : Type 0 where
   pub bytes : List ℕ
-  pub all : WasAll before after bytes
+  pub all : WasAll before.bytes after.bytes bytes
+  pub unfailed : after.faults ≡ before.faults
   pub within : length bytes ≤ 16777216
   pub first : bad bytes callers ≡ Some (record { line = line; why = why })
 
@@ -159,6 +174,11 @@ pub record HasBadLine (callers line : ℕ) (why : Why) (before after : Option (L
 pub record WasUnread (before after : Device) : Type 0 where
   pub rose : Rose before.faults after.faults
   pub few : GaveAtMost 16777216 before.bytes after.bytes
+
+-- the source gave more than may be read, and no read failed before
+pub record WasTooLong (before after : Device) : Type 0 where
+  pub gave : GaveMore 16777216 before.bytes after.bytes
+  pub unfailed : after.faults ≡ before.faults
 
 -- nothing was read or written
 pub record Untouched (before after : World) : Type 0 where
@@ -169,8 +189,15 @@ pub record Untouched (before after : World) : Type 0 where
 pub record IsNotBuilt (words : List (List ℕ)) (before after : World) : Type 0 where
   pub settings : Settings
   pub said_by : settings_of words ≡ Some settings
-  pub other : settings.map ≡ kind.Plain → ⊥
+  pub other : IsBuilt settings.map → ⊥
   pub untouched : Untouched before after
+
+-- there was no memory: nothing was written, no read failed, and with a made trace nothing was read
+pub record HadNoMemory (words : List (List ℕ)) (before after : World) : Type 0 where
+  pub quiet : after.sink ≡ before.sink
+  pub unfailed : after.source.faults ≡ before.source.faults
+  pub unread : (settings : Settings) (make : Make) → settings_of words ≡ Some settings → settings.make ≡ Some make
+      → after.source ≡ before.source
 
 -- ---- the ending
 
@@ -180,12 +207,12 @@ Cause way.Answered words before after answers kept = IsWhole words before after 
 Cause (way.Partly full lost) words before after answers kept = IsWhole words before after answers kept full lost × (0 < full + lost)
 Cause way.BadWords words before after answers kept = (settings_of words ≡ None) × Untouched before after
 Cause (way.BadLine line why) words before after answers kept =
-    IsReading words before after (λ s. HasBadLine s.callers line why before.source.bytes after.source.bytes)
+    IsReading words before after (λ s. HasBadLine s.callers line why before.source after.source)
 Cause way.Unread words before after answers kept = IsReading words before after (λ s. WasUnread before.source after.source)
 Cause way.TooLong words before after answers kept =
-    IsReading words before after (λ s. GaveMore 16777216 before.source.bytes after.source.bytes)
+    IsReading words before after (λ s. WasTooLong before.source after.source)
 Cause way.Unwritten words before after answers kept = IsCut words before after answers kept
-Cause way.NoMemory words before after answers kept = after.sink ≡ before.sink
+Cause way.NoMemory words before after answers kept = HadNoMemory words before after
 Cause way.NotBuilt words before after answers kept = IsNotBuilt words before after
 
 abbrev pub status_of : Way → ℕ
@@ -211,17 +238,32 @@ line_of (way.Partly full lost) = codes "answers: " ++ decimal full ++ codes " fu
 line_of way.TooLong = codes "trace: longer than 16777216 bytes\n"
 line_of way.NotBuilt = codes "map: not built\n"
 
+-- a line was told whole, by writes that all succeeded and that each offered all that was left of it
+pub record IsToldWhole {E : Type 0} (written : E → Option (List ℕ)) (faults : E → ℕ) (Writes : E → E → List ℕ → Result ℕ Failed → Type 0)
+    (old new : E) (line : List ℕ) : Type 0 where
+  pub written_is : Appends (written old) (written new) line
+  pub kept : faults new ≡ faults old
+  pub writes : WroteOn Writes OffersAll old line new []
+
+-- a prefix of a line was told, up to the first write that failed, which ended its writing
+pub record IsToldPart {E : Type 0} (written : E → Option (List ℕ)) (faults : E → ℕ) (Writes : E → E → List ℕ → Result ℕ Failed → Type 0)
+    (old new : E) (line : List ℕ) : Type 0 where
+  pub written_is : GrewByPrefix (written old) (written new) line
+  pub rose : Rose (faults old) (faults new)
+  pub rest : List ℕ
+  pub writes : WroteToFault Writes OffersAll old line new rest
+
 -- the line was told, or a failure cut it off
-abbrev pub IsTold : Device → Device → List ℕ → Type 0
-IsTold before after line = Appends before.bytes after.bytes line ⊎
-    (Rose before.faults after.faults × GrewByPrefix before.bytes after.bytes line)
+abbrev pub IsTold : {E : Type 0} → (E → Option (List ℕ)) → (E → ℕ) → (E → E → List ℕ → Result ℕ Failed → Type 0) → E → E → List ℕ → Type 0
+IsTold written faults Writes old new line =
+    IsToldWhole written faults Writes old new line ⊎ IsToldPart written faults Writes old new line
 
 -- The ending of a replay: it ended in one way, by its cause, with its status, and its line was told.
-pub record IsEnding (words : List (List ℕ)) (before after : World) (said_before said_after : Device) (ending : EndingView) : Type 0 where
+pub record IsEnding (words : List (List ℕ)) (before after : World) (Told : List ℕ → Type 0) (ending : EndingView) : Type 0 where
   pub way : Way
   pub status : ending.status ≡ status_of way
   pub cause : Cause way words before after ending.answers ending.run
-  pub told : IsTold said_before said_after (line_of way)
+  pub told : Told (line_of way)
 
 -- ---- completeness
 

@@ -55,7 +55,8 @@ fn make_calls(alloc: Global, make: Make, callers: u32) -> Result<Vec<Vec<Call>>,
 
 fn read_calls<S: Source>(alloc: Global, callers: u32, source: &mut S) -> Result<Vec<Vec<Call>>, Way>
     requires callers { (1 ≤ callers) × (callers ≤ 64) }
-    ensures calls { IfOk result (λ lists. WasRead callers (S.left source.old) (S.left source.new) (map (λ v. v.items) lists.items)) }
+    ensures calls { IfOk result (λ lists. WasRead callers (device (S.left source.old) (S.faults source.old))
+        (device (S.left source.new) (S.faults source.new)) (map (λ v. v.items) lists.items)) }
     ensures none { IfErr result (λ way. HasNoCalls way None callers (device (S.left source.old) (S.faults source.old))
         (device (S.left source.new) (S.faults source.new))) }
 {

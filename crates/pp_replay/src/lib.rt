@@ -2,7 +2,7 @@
 #![tactic(auto)]
 
 ghost use Rattle.std.specs.Prelude.{◌≡◌, map, string_bytes};
-ghost use Rattle.pp_replay.specs.Replay.{IsEnding, IsGood, IsAnswered, world, device};
+ghost use Rattle.pp_replay.specs.Replay.{IsEnding, IsTold, IsGood, IsAnswered, world, device};
 
 mod attempt;
 mod calls;
@@ -36,7 +36,7 @@ pub fn replay<R: Threads + Sync, S: Source, K: Sink, E: Sink, G: Gate + Sync>(
     ensures ending { IsEnding (map string_bytes words.now)
         (world (device (S.left source.old) (S.faults source.old)) (device (K.written sink.old) (K.faults sink.old)))
         (world (device (S.left source.new) (S.faults source.new)) (device (K.written sink.new) (K.faults sink.new)))
-        (device (E.written errs.old) (E.faults errs.old)) (device (E.written errs.new) (E.faults errs.new)) result }
+        (IsTold E.written E.faults E.Writes errs.old errs.new) result }
     ensures complete { IsGood (map string_bytes words.now)
         (world (device (S.left source.old) (S.faults source.old)) (device (K.written sink.old) (K.faults sink.old)))
         (world (device (S.left source.new) (S.faults source.new)) (device (K.written sink.new) (K.faults sink.new)))

@@ -77,7 +77,7 @@ fn print_text<K: Sink>(
     requires counts { counts.now ≡ counts_of (map (λ v. v.items) answers.now) }
     requires short { AreShort (map (λ v. v.items) answers.now) }
     requires few { length contents.now < 2 ^ 32 }
-    ensures { Puts K.written K.faults sink.old sink.new printer.old printer.new
+    ensures { Puts K.written K.faults K.Writes sink.old sink.new printer.old printer.new
         (output make (map (λ v. v.items) answers.now) contents.now) result }
 {
     match make {
@@ -94,7 +94,7 @@ fn print_trace<K: Sink>(
 ) -> Result<(), Failed>
     requires whole { printer.old.failed ≡ false }
     requires short { AreShort (map (λ v. v.items) answers.now) }
-    ensures { Puts K.written K.faults sink.old sink.new printer.old printer.new
+    ensures { Puts K.written K.faults K.Writes sink.old sink.new printer.old printer.new
         (out (map (λ v. v.items) answers.now) contents.now) result }
 {
     print_answers(printer, sink, answers)?;
@@ -108,7 +108,7 @@ fn print_answers<K: Sink>(
 ) -> Result<(), Failed>
     requires whole { printer.old.failed ≡ false }
     requires short { AreShort (map (λ v. v.items) answers.now) }
-    ensures { Puts K.written K.faults sink.old sink.new printer.old printer.new
+    ensures { Puts K.written K.faults K.Writes sink.old sink.new printer.old printer.new
         (callers_text 0 (map (λ v. v.items) answers.now)) result }
 {
     let mut caller = 0u32;
@@ -127,7 +127,7 @@ fn print_caller<K: Sink>(
 ) -> Result<(), Failed>
     requires whole { printer.old.failed ≡ false }
     requires short { length answers.now ≤ 16777216 }
-    ensures { Puts K.written K.faults sink.old sink.new printer.old printer.new
+    ensures { Puts K.written K.faults K.Writes sink.old sink.new printer.old printer.new
         (caller_text caller 1 answers.now) result }
 {
     let mut number = 1u32;

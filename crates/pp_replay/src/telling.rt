@@ -4,7 +4,7 @@ ghost use Rattle.std.specs.Prelude.{◌≡◌, ◌+◌, ◌≤◌, ◌<◌, List
 ghost use Rattle.std.specs.Fmt.{decimal};
 ghost use Rattle.arrayvec.specs.ArrayString.{array_string_len};
 ghost use Rattle.pp_trace.specs.Text.{why_text};
-ghost use Rattle.pp_replay.specs.Replay.{IsTold, device, line_of};
+ghost use Rattle.pp_replay.specs.Replay.{IsTold, line_of};
 
 use crate::Way;
 use arrayvec::ArrayString;
@@ -15,9 +15,10 @@ use pp_trace::Why;
 // No line is longer than this.
 const LINE: usize = 96;
 
-/// Writes the line of a way, up to the first write that fails. It takes no memory.
+/// Writes the line of a way, up to the first write that fails, which ends its writing. Each write offers all that is left of the
+/// line. It takes no memory.
 pub fn tell<E: Sink>(errs: &mut E, way: Way)
-    ensures { IsTold (device (E.written errs.old) (E.faults errs.old)) (device (E.written errs.new) (E.faults errs.new)) (line_of way) }
+    ensures { IsTold E.written E.faults E.Writes errs.old errs.new (line_of way) }
 {
     let line = line_text(way);
     let mut rest = line.as_str().as_bytes();

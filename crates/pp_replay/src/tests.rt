@@ -78,12 +78,18 @@ const NINE: &[u8] =
 const NINE_OUT: &[u8] =
     b"0 1 added\n0 2 added\n0 3 added\n0 4 added\n0 5 added\n0 6 added\n0 7 added\n0 8 added\n0 9 full\ncontents 8\n1 1\n2 2\n3 3\n4 4\n5 5\n6 6\n7 7\n8 8\n";
 
+const SECOND_FORM: &[u8] =
+    b"trace 2\n0 insert 7 340282366920938463463374607431768211455\n0 cut 7 1\n0 cut 7 340282366920938463463374607431768211455\n0 cut 7 1\n";
+
+const SECOND_FORM_OUT: &[u8] =
+    b"0 1 added\n0 2 other 340282366920938463463374607431768211455\n0 3 took 340282366920938463463374607431768211455\n0 4 absent\ncontents 0\n";
+
 const MADE_OUT: &[u8] =
     b"made 2\nadded 1\nheld 0\nvalue 0\nabsent 1\ntook 0\nfull 0\nlost 0\ncontents 1\n";
 
 #[test]
 fn replays_end_as_worked_by_hand(rt: HostRuntime) -> Result<(), Fail> {
-    let rows: [(&str, &[u8], u8, &[u8], &[u8]); 29] = [
+    let rows: [(&str, &[u8], u8, &[u8], &[u8]); 34] = [
         ("--map plain", b"", 0, b"contents 0\n", b""),
         ("--map plain", SMALL, 0, SMALL_OUT, b""),
         ("--map plain", b"0", 2, b"", b"trace: line 1: word\n"),
@@ -155,6 +161,35 @@ fn replays_end_as_worked_by_hand(rt: HostRuntime) -> Result<(), Fail> {
             2,
             b"",
             b"trace: line 1: value\n",
+        ),
+        ("--map plain", SECOND_FORM, 0, SECOND_FORM_OUT, b""),
+        (
+            "--map plain",
+            b"trace 2\n0 insert 7 340282366920938463463374607431768211456\n",
+            2,
+            b"",
+            b"trace: line 2: value\n",
+        ),
+        (
+            "--map plain",
+            b"0 cut 7 1\n",
+            2,
+            b"",
+            b"trace: line 1: word\n",
+        ),
+        (
+            "--map plain",
+            b"trace 3\n",
+            2,
+            b"",
+            b"trace: line 1: caller\n",
+        ),
+        (
+            "--map plain",
+            b"0 get 1\ntrace 2\n",
+            2,
+            b"",
+            b"trace: line 2: caller\n",
         ),
         ("--map hash", SMALL, 8, b"", b"map: not built\n"),
         ("", SMALL, 1, b"", b"words: refused\n"),

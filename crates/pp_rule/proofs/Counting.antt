@@ -57,7 +57,7 @@ module _ (live : List ℕ) where
       (λ used. ap (times m) (spare_live low n used) ∙ rest)
 
   -- a number that isn't live is spare once, and a live one never
-  times_inside : (low n m : ℕ) → low ≤ m → m < low + n → times m live ≡ 0 → times m (spare live low n) ≡ 1
+  pub times_inside : (low n m : ℕ) → low ≤ m → m < low + n → times m live ≡ 0 → times m (spare live low n) ≡ 1
   times_inside low zero m least most none = absurd (omega arith)
   times_inside low (suc n) m least most none = dite (ℕ_discrete low m)
       (λ same. ap (times m) (spare_free low n (ap (λ (k : ℕ). times k live) same ∙ none))

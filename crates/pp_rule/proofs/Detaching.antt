@@ -1,6 +1,6 @@
 -- The exchange that detaches a chain, and the one that finds another word.
 use Rattle.std.proofs.Common.{◌≡◌, ◌≢◌, ◌⊎◌, ℕ, ◌+◌, ◌<◌, ◌≤◌, Bool, true, false, cond, eqb, List, [], ◌∷◌, ◌++◌, length, get_or, set}
-use Rattle.std.proofs.Common.{refl, sym, ap, ◌∙◌, subst, inl, inr, ⊎_elim, arith, eq-eqb, ne_eqb}
+use Rattle.std.proofs.Common.{refl, sym, ap, ap₂, ◌∙◌, subst, inl, inr, ⊎_elim, arith, eq-eqb, ne_eqb}
 use Rattle.std.proofs.lemmas.List.{length-set}
 use Rattle.std.proofs.Math.Bool.{false≢true}
 use Rattle.std.proofs.Math.Decide.{ℕ_discrete}
@@ -14,22 +14,23 @@ use Rattle.pp_link.specs.Links.{target, invalid_bit}
 use Rattle.pp_link.specs.Places.{IsNumber, head_place, cell_place}
 use Rattle.pp_link.specs.Words.{frontier_word, shelf_word, head_word, cell_word}
 use Rattle.pp_rule.specs.Lists.{IsIn, OnceBy, Once}
-use Rattle.pp_rule.specs.Orders.{LoggedStep, stores, detach_step, missed_step}
-use Rattle.pp_rule.specs.Views.{WalkSlot, Chain, PassState, SeatView, slot, guarding}
+use Rattle.pp_rule.specs.Orders.{LoggedStep, stores, only_loads, detach_step, missed_step}
+use Rattle.pp_rule.specs.Views.{halves, WalkSlot, Chain, PassState, SeatView, slot, guarding}
 use Rattle.pp_rule.specs.States.{RecordState, attached, in_hand, retired, owned, shelved, IsUsed, IsStateIn, PoolState}
-use Rattle.pp_rule.specs.States.{IsSmall, Stays, Leads, Leaves, Held, SameTarget}
+use Rattle.pp_rule.specs.States.{IsSmall, Keeps, Leads, Leaves, Held, SameTarget}
 use Rattle.pp_rule.specs.Rule.{guard_of, Numbers, PrivateWords, Hazards, Links, Shelves, Chains, Scans, Base}
 use Rattle.pp_rule.specs.Ties.{Holds}
 use Rattle.pp_rule.specs.Steps.{entry, IsAlone, detaching, IsSource, IsUnused}
 use Rattle.pp_rule.specs.Looks.{SameOwn}
 use Rattle.pp_rule.specs.Detach.{Detaches, Detached, Exchanged}
-use Rattle.pp_rule.specs.Laws.{KeptAlike, MayDetach, KeptDetached}
+use Rattle.pp_rule.specs.Paths.{IsChainTo}
+use Rattle.pp_rule.specs.Laws.{KeptAlike, Freezes, Chained, MayDetach, KeptDetached}
 use Rattle.pp_rule.proofs.Put.{put, put_each, in_left, in_either, in_last, in_one, only}
 use Rattle.pp_rule.proofs.Slots.{same_own}
 use Rattle.pp_rule.proofs.FreeLinks.{LinkStored, link_stored}
 use Rattle.pp_rule.proofs.Stepping.{after_step, Plays, allows_by}
 use Rattle.pp_rule.proofs.Frames.{reads_after, shelves_after}
-use Rattle.pp_rule.proofs.Keeping.{idle_keeps}
+use Rattle.pp_rule.proofs.Confirming.{learning_from, source_learns}
 use Rattle.pp_rule.proofs.Sources.{source_sound}
 use Rattle.pp_rule.proofs.Chained.{at_either, in_or_out, put_all, put_all_in, put_all_out}
 use Rattle.pp_rule.proofs.Chained.{leaves_on, with_chains, numbers_on, privates_on, hazards_on, scans_on}
@@ -131,10 +132,10 @@ module _ {E A W : Type 0} (sides : ℕ) (z : Sizes) (words : List ℕ) (g : Pool
             number = h.number;
             used = used_on w.named h.used;
             key = stored.fields w.named 0 h.number (omega arith) ∙ h.key;
-            value = stored.fields w.named 1 h.number (omega arith) ∙ h.value;
+            value = ap₂ halves (stored.fields w.named 1 h.number (omega arith)) (stored.high w.named h.number) ∙ h.value;
             learnt = λ l k. let was = h.learnt l k in (
               was.0,
-              subst (Stays l.1) (sym (stored.other_cell w.named (2 + l.0) (d.place_is.unlearnt r i l low five on k))) was.1,
+              subst (Keeps l.1) (sym (stored.other_cell w.named (2 + l.0) (d.place_is.unlearnt r i l low five on k))) was.1,
               was.2,
             );
           }
@@ -349,20 +350,33 @@ module _ {E A W : Type 0} (sides : ℕ) (opens : Sizes → List ℕ) (addition :
   stores_none true = refl
   stores_none false = refl
 
+  -- one that missed leaves what it found
+  missed_keeps : (hit : Bool) (n new : ℕ) → only_loads (cond hit detach_step missed_step) ≡ true → either hit new n ≡ n
+  missed_keeps true n new bad = absurd (false≢true bad)
+  missed_keeps false n new is = refl
+
   -- A chain may be detached by an exchange at a source, where the shape says so.
-  pub detaches_chain : KeptAlike sides addition → (chain : List WalkSlot → W → ℕ → ℕ → ℕ → Chain)
-      → (may_detach : Sizes → List WalkSlot → W → ℕ → ℕ → ℕ → Type 0) → MayDetach sides addition chain may_detach
-      → KeptDetached sides addition chain may_detach → (z : Sizes) (slots id place guard first new : ℕ) (me : Me Unit (SeatView E A W))
-      → IsAlone me → IsSource sides z me.0.known place → may_detach z me.0.known.walk me.0.known.own place first new
+  pub detaches_chain : KeptAlike sides addition → (frozen : ℕ → Bool) → Freezes frozen
+      → (chain : List WalkSlot → W → ℕ → ℕ → ℕ → Chain)
+      → (may_detach : Sizes → List WalkSlot → W → ℕ → ℕ → ℕ → Type 0) → Chained sides addition chain may_detach
+      → MayDetach sides addition chain may_detach → KeptDetached sides addition chain may_detach
+      → (z : Sizes) (slots id place guard first new : ℕ) (me : Me Unit (SeatView E A W))
+      → IsAlone me → (source : IsSource sides z me.0.known place) → may_detach z me.0.known.walk me.0.known.own place first new
       → guard < 4 → guarding me.0.known guard ≡ target new → IsUnused guard me.0.known
       → Allows (Holds sides opens addition z) slots id me place (λ n. either (eqb n first) new n)
-      (λ n m'. (m'.1 ≡ []) × Exchanged (chain me.0.known.walk me.0.known.own guard first new) first new n place me.0 m'.0)
-  detaches_chain alike chain may_detach shows kept z slots id place guard first new me lone source may four names unused = let q : PassState W = me.0.known in
+      (λ n m'. (m'.1 ≡ []) × Exchanged (chain me.0.known.walk me.0.known.own guard first new) first new n place
+      (learning_from sides z place frozen me.0.known source n) me.0 m'.0
+      × (n ≡ first → IsChainTo sides guard (target first) (target new) (chain me.0.known.walk me.0.known.own guard first new)))
+  detaches_chain alike frozen freezes chain may_detach orders shows kept z slots id place guard first new me lone source may four names unused =
+      let q : PassState W = me.0.known in
       let c : Chain = chain q.walk q.own guard first new in
-      let then : ℕ → Me Unit (SeatView E A W) → Type 0 = λ n m'. (m'.1 ≡ []) × Exchanged c first new n place me.0 m'.0 in
+      let then : ℕ → Me Unit (SeatView E A W) → Type 0 = λ n m'. (m'.1 ≡ [])
+      × Exchanged c first new n place (learning_from sides z place frozen q source n) me.0 m'.0
+      × (n ≡ first → IsChainTo sides guard (target first) (target new) c) in
       allows_by sides opens addition z slots id place (λ n. cond (eqb n first) detach_step missed_step) me
       (λ n. either (eqb n first) new n) (λ n. n)
       then lone (λ m no. refl) (λ m bad. absurd (false≢true (sym (stores_none (eqb m first)) ∙ bad)))
+      (λ m. missed_keeps (eqb m first) m new)
       (λ words g b add pass is sizes fits.
       let n : ℕ = get_or words place 0 in
       let small : IsSmall n = (source_sound sides z words g q place b pass is source).small in
@@ -389,15 +403,23 @@ module _ {E A W : Type 0} (sides : ℕ) (opens : Sizes → List ℕ) (addition :
           base = b';
           added = kept z words g (after_step g q' status s) q place guard first new b b' pass is may e d looks add;
         };
-        tells = λ v is_now made. (refl, record { small = small; same = λ _. made; other = λ ne. absurd (ne e) });
+        tells = λ v is_now made. (
+          refl,
+          record { small = small; same = λ _. made; other = λ ne. absurd (ne e) },
+          λ _. orders z words g q place guard first new b add pass is may e,
+        );
       }))
       (λ ne. subst (λ (hit : Bool). Plays sides opens addition (cond hit detach_step missed_step) place n
       (either hit new n) z words g me.0 (then n))
       (sym (ne_eqb n first ne)) record {
-        known = q;
+        known = learning_from sides z place frozen q source n;
         status = g.status;
         changes = [];
         placed = [];
-        keeps_rule = idle_keeps sides opens addition alike missed_step place z words g q b add pass is sizes;
-        tells = λ v is_now made. (refl, record { small = small; same = λ e. absurd (ne e); other = λ _. made });
+        keeps_rule = source_learns sides opens addition alike frozen freezes z missed_step place words g q b add pass is sizes source;
+        tells = λ v is_now made. (
+          refl,
+          record { small = small; same = λ e. absurd (ne e); other = λ _. made },
+          λ e. absurd (ne e),
+        );
       }))

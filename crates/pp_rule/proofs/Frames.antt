@@ -1,5 +1,5 @@
 -- What each part of the rule of every pool asks of a step so that it stays.
-use Rattle.std.proofs.Common.{◌≡◌, ◌≢◌, ◌⊎◌, ℕ, ◌+◌, ◌*◌, ◌<◌, ◌≤◌, true, List, map, length, set, refl, sym, ap}
+use Rattle.std.proofs.Common.{◌≡◌, ◌≢◌, ◌⊎◌, ℕ, ◌+◌, ◌*◌, ◌<◌, ◌≤◌, true, List, map, length, set, refl, sym, ap, ap₂}
 use Rattle.std.proofs.Common.{◌∙◌, subst, arith}
 use Rattle.std.proofs.lemmas.List.{length-set}
 use Rattle.pp_link.specs.declared.layout.Sizes.{Sizes}
@@ -8,8 +8,8 @@ use Rattle.pp_link.specs.Places.{IsNumber}
 use Rattle.pp_link.specs.Words.{walk_word, frontier_word, cell_word, SameShelves, SameHeads, SameCells}
 use Rattle.pp_link.specs.Words.{WalkStored, FrontierStored}
 use Rattle.pp_rule.specs.Lists.{IsIn, OnceBy, Once}
-use Rattle.pp_rule.specs.Views.{WalkSlot, PrivateRecord, Chain, PassState, slot, guarding}
-use Rattle.pp_rule.specs.States.{RecordState, in_hand, retired, owned, shelved, IsUsed, Stays, SameTarget}
+use Rattle.pp_rule.specs.Views.{WalkSlot, PrivateRecord, Chain, PassState, halves, slot, guarding}
+use Rattle.pp_rule.specs.States.{RecordState, in_hand, retired, owned, shelved, IsUsed, Keeps, SameTarget}
 use Rattle.pp_rule.specs.States.{Leads, Leaves, Held, IsSmall}
 use Rattle.pp_rule.specs.Rule.{Reads, number_of, guard_of, Numbers, PrivateWords, Hazards, Links, Shelves, Chains, Scans}
 use Rattle.pp_rule.proofs.Put.{put, put_each, image_at, once_same}
@@ -17,7 +17,7 @@ use Rattle.pp_rule.proofs.Put.{put, put_each, image_at, once_same}
 -- the heads and the fields of used records are as they were
 pub record SameUsed (z : Sizes) (status : ℕ → RecordState) (old new : List ℕ) : Type 0 where
   pub heads : SameHeads z old new
-  pub cells : (n f : ℕ) → IsNumber z n → f < 4 → IsUsed (status n) → cell_word new z n f ≡ cell_word old z n f
+  pub cells : (n f : ℕ) → IsNumber z n → f < 5 → IsUsed (status n) → cell_word new z n f ≡ cell_word old z n f
 
 -- all words are as they were but for hazard words
 pub record SameContent (z : Sizes) (old new : List ℕ) : Type 0 where
@@ -47,18 +47,21 @@ module _ (z : Sizes) where
     number = h.number;
     used = h.used;
     key = s.cells w.named 0 h.number (omega arith) h.used ∙ h.key;
-    value = s.cells w.named 1 h.number (omega arith) h.used ∙ h.value;
+    value = ap₂ halves (s.cells w.named 1 h.number (omega arith) h.used)
+        (s.cells w.named 4 h.number (omega arith) h.used) ∙ h.value;
     learnt = λ l i. let was = h.learnt l i in let side : l.0 < 2 = was.0 in
-        (was.0, subst (λ (n : ℕ). Stays l.1 n) (sym (s.cells w.named (2 + l.0) h.number (omega arith) h.used)) was.1, was.2);
+        (was.0, subst (λ (n : ℕ). Keeps l.1 n) (sym (s.cells w.named (2 + l.0) h.number (omega arith) h.used)) was.1, was.2);
   }
 
-  pub reads_after : (old new : List ℕ) (d : PrivateRecord) → ((f : ℕ) → f < 4 → cell_word new z d.number f ≡ cell_word old z d.number f)
+  pub reads_after : (old new : List ℕ) (d : PrivateRecord)
+      → ((f : ℕ) → f < 5 → cell_word new z d.number f ≡ cell_word old z d.number f)
       → Reads z old d → Reads z new d
   reads_after old new d same r = record {
     key = same 0 (omega arith) ∙ r.key;
     value = same 1 (omega arith) ∙ r.value;
     left = same 2 (omega arith) ∙ r.left;
     right = same 3 (omega arith) ∙ r.right;
+    high = same 4 (omega arith) ∙ r.high;
   }
 
   pub links_after : (sides : ℕ) (old new : List ℕ) (status : ℕ → RecordState) → sides ≤ 2 → SameUsed z status old new

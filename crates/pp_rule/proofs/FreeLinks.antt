@@ -21,8 +21,9 @@ module _ {E A W : Type 0} where
     pub this_cell : (n f : ℕ) → cell_place z n f ≡ place → cell_word (set words place value) z n f ≡ value
     -- keys and values stay
     pub fields : (n f : ℕ) → IsNumber z n → f < 2 → cell_word (set words place value) z n f ≡ cell_word words z n f
+    pub high : (n : ℕ) → IsNumber z n → cell_word (set words place value) z n 4 ≡ cell_word words z n 4
     -- all words of a record that isn't attached stay
-    pub unattached : (n f : ℕ) (s : RecordState) → IsNumber z n → f < 4 → g.status n ≡ s → s ≢ attached
+    pub unattached : (n f : ℕ) (s : RecordState) → IsNumber z n → f < 5 → g.status n ≡ s → s ≢ attached
         → cell_word (set words place value) z n f ≡ cell_word words z n f
 
   pub link_stored : (z : Sizes) (words : List ℕ) (g : PoolState E A W) (place value : ℕ) → length words ≡ total z → IsFreeLink z g place
@@ -38,7 +39,10 @@ module _ {E A W : Type 0} where
     this_cell = λ n f e. ap (λ (k : ℕ). get_or new k 0) e ∙ here;
     fields = λ n f number two. elsewhere (cell_place z n f)
         (λ e. let high : 2 ≤ f = (free.holder n f number (omega arith) e).0 in absurd (omega arith));
-    unattached = λ n f s number four state ne. elsewhere (cell_place z n f) (λ e. ne (sym state ∙ (free.holder n f number four e).1));
+    high = λ n number. elsewhere (cell_place z n 4)
+        (λ e. let low : 4 < 4 = (free.holder n 4 number (omega arith) e).1 in absurd (omega arith));
+    unattached = λ n f s number four state ne. elsewhere (cell_place z n f)
+        (λ e. ne (sym state ∙ (free.holder n f number four e).2));
   }
     where
       new : List ℕ

@@ -65,6 +65,7 @@ module _ (z : Sizes) (words : List ℕ) where
     value = cell_word words z n 1;
     left = cell_word words z n 2;
     right = cell_word words z n 3;
+    high = cell_word words z n 4;
   }
 
   pub numbers_read : (ns : List ℕ) → map number_of (map read_record ns) ≡ ns
@@ -75,7 +76,7 @@ module _ (z : Sizes) (words : List ℕ) where
   read_from [] d i = absurd (in_nil d i)
   read_from (n ∷ ns) d i = ⊎_elim
       (λ (here : d ≡ read_record n). subst (λ (c : PrivateRecord). IsIn c.number (n ∷ ns) × Reads z words c) (sym here)
-      (in_first n ns, record { key = refl; value = refl; left = refl; right = refl }))
+      (in_first n ns, record { key = refl; value = refl; left = refl; right = refl; high = refl }))
       (λ (later : IsIn d (map read_record ns)). let was = read_from ns d later in (in_later d.number n ns was.0, was.1))
       (in_cases d (read_record n) (map read_record ns) i)
 
@@ -358,7 +359,7 @@ module _ {E A W : Type 0} (sides : ℕ) (opens : Sizes → List ℕ) (addition :
   unfolding walk_word
   frees_retired alike z slots id place me lone full at = let q : PassState W = me.0.known in
       allows sides opens addition z slots id place scan_walk_step me (λ n. n) (λ n. n) (λ n m'. (m'.1 ≡ []) × Reclaimed n place me.0 m'.0)
-      lone (λ m no. refl) (λ m bad. absurd (false≢true bad))
+      lone (λ m no. refl) (λ m bad. absurd (false≢true bad)) (λ m _. refl)
       (λ words g b add pass is sizes fits. let n : ℕ = get_or words place 0 in
       let found : n ≡ walk_word words z (z.passes - 1) 4 = ap (λ (k : ℕ). get_or words k 0) at in
       let ns : List ℕ = without n (still q) in

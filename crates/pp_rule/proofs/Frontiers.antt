@@ -73,7 +73,8 @@ module _ {E A W : Type 0} (sides : ℕ) (opens : Sizes → List ℕ) (addition :
   stores_frontier alike kind does z slots id place j n me lone lt unused at = let q : PassState W = me.0.known in
       let q' : PassState W = with_frontier j n q in
       allows sides opens addition z slots id place kind me (λ _. n) (λ _. n)
-      (λ _ m'. (m'.1 ≡ []) × MadeQuietStep kind place n n q' me.0 m'.0) lone (λ m bad. absurd (false≢true (sym bad ∙ does))) (λ m yes. refl)
+      (λ _ m'. (m'.1 ≡ []) × MadeQuietStep kind place n n q' me.0 m'.0) lone (λ m bad. absurd (false≢true (sym bad ∙ does)))
+      (λ m yes. refl) (λ m _. refl)
       (λ words g b add pass is sizes fits.
       let e : LoggedStep E A = entry kind place n n [] [] g.order q' in
       let new : List ℕ = set words place n in

@@ -49,7 +49,7 @@ module _ {E : Type 0} where
   )
 
 module _ {E A : Type 0} where
-  entries_append : (xs ys : List (LoggedStep E A)) → entries_of (xs ++ ys) ≡ entries_of xs ++ entries_of ys
+  pub entries_append : (xs ys : List (LoggedStep E A)) → entries_of (xs ++ ys) ≡ entries_of xs ++ entries_of ys
   unfolding entries_of
   entries_append [] ys = refl
   entries_append (x ∷ xs) ys = ap (λ l. x.entry ∷ l) (entries_append xs ys)
@@ -58,7 +58,7 @@ module _ {E A : Type 0} where
   unfolding entries_of
   entries_one s = refl
 
-  entries_snoc : (xs : List (LoggedStep E A)) (s : LoggedStep E A) → entries_of (xs ++ s ∷ []) ≡ entries_of xs ++ s.entry ∷ []
+  pub entries_snoc : (xs : List (LoggedStep E A)) (s : LoggedStep E A) → entries_of (xs ++ s ∷ []) ≡ entries_of xs ++ s.entry ∷ []
   entries_snoc xs s = entries_append xs (s ∷ []) ∙ ap (λ l. entries_of xs ++ l) (entries_one s)
 
   pub log_append : (xs ys : List (LoggedStep E A)) → log_of (xs ++ ys) ≡ log_of xs ++ log_of ys

@@ -1,6 +1,6 @@
 -- The or-step that sets INVALID in a link of a record in hand.
 use Rattle.std.proofs.Common.{◌≡◌, ◌≢◌, ◌⊎◌, ℕ, ◌+◌, ◌*◌, ◌/◌, ◌%◌, ◌<◌, max, Bool, true, false, cond, eqb, ◌&&◌, List, [], ◌∷◌, map}
-use Rattle.std.proofs.Common.{get_or, set, bit_or, refl, sym, ap, ◌∙◌, subst, inl, inr, ⊎_elim, arith, eq-eqb, ne_eqb}
+use Rattle.std.proofs.Common.{get_or, set, bit_or, refl, sym, ap, ap₂, ◌∙◌, subst, inl, inr, ⊎_elim, arith, eq-eqb, ne_eqb}
 use Rattle.std.proofs.lemmas.List.{length-set}
 use Rattle.std.proofs.Math.Bool.{false≢true}
 use Rattle.std.proofs.Math.Decide.{ℕ_discrete}
@@ -11,14 +11,15 @@ use lib.Bits.{or_step, or_zero_r}
 use Rattle.atomic_table.specs.Table.{Me, Allows}
 use Rattle.atomic_table.proofs.Lists.{at_set}
 use Rattle.pp_link.specs.declared.layout.Sizes.{Sizes}
-use Rattle.pp_link.specs.Links.{target, invalid_bit}
+use Rattle.pp_link.specs.Links.{target, invalid_bit, tag_bit}
 use Rattle.pp_link.specs.Places.{IsNumber, cell_place}
 use Rattle.pp_link.specs.Words.{cell_word, CellStored}
 use Rattle.pp_link.proofs.Stores.{cell_stored}
 use Rattle.pp_rule.specs.Lists.{IsIn, OnceBy, Once}
 use Rattle.pp_rule.specs.Orders.{LoggedStep, invalidate_step}
-use Rattle.pp_rule.specs.Views.{Chain, ChainLink, PassState, SeatView, slot}
-use Rattle.pp_rule.specs.States.{attached, in_hand, retired, owned, PoolState, IsSmall, Stays, SameTarget, Leads, Leaves, Held}
+use Rattle.pp_rule.specs.Views.{halves, Chain, ChainLink, PassState, SeatView, slot}
+use Rattle.pp_rule.specs.States.{attached, in_hand, retired, owned, PoolState, IsSmall, Stays, Keeps, SameTarget, Leads, Leaves}
+use Rattle.pp_rule.specs.States.{Held}
 use Rattle.pp_rule.specs.Rule.{guard_of, PrivateWords, Hazards, Links, Chains, Scans, Base}
 use Rattle.pp_rule.specs.Ties.{Holds}
 use Rattle.pp_rule.specs.Steps.{entry, IsAlone, without_link, invalidated, with_chain, Invalidated}
@@ -57,6 +58,18 @@ sets_invalid w = ⊎_elim
       small = λ s. omega arith;
     })
     (invalid_set w)
+
+-- a link of which INVALID was set keeps what was learnt
+pub keeps_through : (u v w : ℕ) → Keeps u v → SetsInvalid v w → Keeps u w
+keeps_through u v w a s = record {
+  same = record {
+    target_is = s.same.target_is ∙ a.same.target_is;
+    flag_is = s.same.flag_is ∙ a.same.flag_is;
+    leaf_is = s.same.leaf_is ∙ a.same.leaf_is;
+  };
+  tag = λ e. ⊎_elim (λ (same : w ≡ v). ap tag_bit same ∙ a.tag e) (λ (t : (invalid_bit v ≡ 0) × (w ≡ v + 4)). let p = t.0 in
+      let q = t.1 in let r = a.tag e in omega arith) s.stays;
+}
 
 -- what was learnt stays so, since INVALID is set once
 pub stays_through : (u v w : ℕ) → Stays u v → SetsInvalid v w → Stays u w
@@ -129,7 +142,7 @@ module _ {E A W : Type 0} (sides : ℕ) (z : Sizes) (words : List ℕ) (g : Pool
           (λ same. let e : 2 + t ≡ 2 + side = same.1 in ne (same.0, omega arith))
 
   -- a record that isn't in hand has all its words
-  elsewhere : (m f : ℕ) → IsNumber z m → f < 4 → m ≢ n → cell_word new z m f ≡ cell_word words z m f
+  elsewhere : (m f : ℕ) → IsNumber z m → f < 5 → m ≢ n → cell_word new z m f ≡ cell_word words z m f
   elsewhere m f number lt ne = link_stored.cells m f number lt (λ same. ne same.0)
 
   held_now : (r i : ℕ) → r < z.passes → i < 5 → (slot (g.of r) i).held ≡ true → Held z new g.status (slot (g.of r) i)
@@ -138,19 +151,21 @@ module _ {E A W : Type 0} (sides : ℕ) (z : Sizes) (words : List ℕ) (g : Pool
         number = h.number;
         used = h.used;
         key = link_stored.cells w 0 h.number (omega arith) (λ same. let e : 0 ≡ 2 + side = same.1 in omega arith) ∙ h.key;
-        value = link_stored.cells w 1 h.number (omega arith) (λ same. let e : 1 ≡ 2 + side = same.1 in omega arith) ∙ h.value;
+        value = ap₂ halves (link_stored.cells w 1 h.number (omega arith) (λ same. let e : 1 ≡ 2 + side = same.1 in omega arith))
+            (link_stored.cells w 4 h.number (omega arith) (λ same. let e : 4 ≡ 2 + side = same.1 in let most = b.two in
+            omega arith)) ∙ h.value;
         learnt = λ l j. let was = h.learnt l j in (was.0, link_now w l was.0 was.1 h.number, was.2);
       }
     where
-      link_now : (w : ℕ) (l : ℕ × ℕ) → l.0 < 2 → Stays l.1 (cell_word words z w (2 + l.0)) → IsNumber z w → Stays l.1
+      link_now : (w : ℕ) (l : ℕ × ℕ) → l.0 < 2 → Keeps l.1 (cell_word words z w (2 + l.0)) → IsNumber z w → Keeps l.1
           (cell_word new z w (2 + l.0))
       link_now w l two stays number = dite (ℕ_discrete w n) (λ e. dite (ℕ_discrete l.0 side)
-          (λ f. subst (λ (m : ℕ). Stays l.1 (cell_word words z m (2 + l.0)) → Stays l.1 (cell_word new z m (2 + l.0))) (sym e)
-          (subst (λ (t : ℕ). Stays l.1 (cell_word words z n (2 + t)) → Stays l.1 (cell_word new z n (2 + t))) (sym f)
-          (λ s. stays_through l.1 (cell_word words z n (2 + side)) (cell_word new z n (2 + side)) s set_now)) stays)
-          (λ ne. subst (Stays l.1) (sym (link_stored.cells w (2 + l.0) number (omega arith)
+          (λ f. subst (λ (m : ℕ). Keeps l.1 (cell_word words z m (2 + l.0)) → Keeps l.1 (cell_word new z m (2 + l.0))) (sym e)
+          (subst (λ (t : ℕ). Keeps l.1 (cell_word words z n (2 + t)) → Keeps l.1 (cell_word new z n (2 + t))) (sym f)
+          (λ s. keeps_through l.1 (cell_word words z n (2 + side)) (cell_word new z n (2 + side)) s set_now)) stays)
+          (λ ne. subst (Keeps l.1) (sym (link_stored.cells w (2 + l.0) number (omega arith)
           (λ same. let d : 2 + l.0 ≡ 2 + side = same.1 in ne (omega arith)))) stays))
-          (λ ne. subst (Stays l.1) (sym (elsewhere w (2 + l.0) number (omega arith) ne)) stays)
+          (λ ne. subst (Keeps l.1) (sym (elsewhere w (2 + l.0) number (omega arith) ne)) stays)
 
   hazards_now : Hazards z new g.of g.status
   hazards_now = record {
@@ -322,6 +337,7 @@ module _ {E A W : Type 0} (sides : ℕ) (opens : Sizes → List ℕ) (addition :
       let q' : PassState W = with_chain k (invalidated n side c) q in
       allows sides opens addition z slots id place invalidate_step me (λ w. bit_or w 4) (λ w. w)
       (λ w m'. (m'.1 ≡ []) × Invalidated k c n side w place me.0 m'.0) lone (λ m no. refl) (λ m bad. absurd (false≢true bad))
+      (λ m bad. absurd (false≢true bad))
       (λ words g b add pass is sizes fits.
       let w : ℕ = get_or words place 0 in
       let e : LoggedStep E A = entry invalidate_step place w (bit_or w 4) [] [] g.order q' in

@@ -173,7 +173,7 @@ module _ {W : Type 0} (sentinels : ℕ) (own : W) (z : Sizes) where
 module _ {E A : Type 0} where
   runs_open : (words : List ℕ) → Runs {E = E} {A = A} words words []
   unfolding entries_of
-  runs_open words = record { leaves = refl; finds = tt }
+  runs_open words = record { leaves = refl; finds = tt; kept = λ s i. absurd (in_nil s i) }
 
 module _ {E A W : Type 0} (sides sentinels : ℕ) (head : ℕ → ℕ) (field : ℕ → ℕ → ℕ) (own : W) (z : Sizes) where
   -- what the rule knows at the opening
@@ -201,6 +201,7 @@ module _ {E A W : Type 0} (sides sentinels : ℕ) (head : ℕ → ℕ) (field : 
                 value = opening_cell sentinels head field z d.number 1 high (omega arith);
                 left = opening_cell sentinels head field z d.number 2 high (omega arith);
                 right = opening_cell sentinels head field z d.number 3 high (omega arith);
+                high = opening_cell sentinels head field z d.number 4 high (omega arith);
               };
         };
         hazards = record {
@@ -215,7 +216,7 @@ module _ {E A W : Type 0} (sides sentinels : ℕ) (head : ℕ → ℕ) (field : 
           heads = λ h low. subst (Leads z status) (sym (opening_head sentinels head field z h low)) (leads_open sentinels z most
               (head h) (heads h));
           linked = λ n side number lt is. let low : n ≤ sentinels = is_sentinel sentinels z n is in
-              let four : 2 + side < 4 = omega arith in
+              let four : 2 + side < 5 = omega arith in
               subst (Leads z status) (sym (opening_field sentinels head field z n (2 + side) number.0 low four))
               (leads_open sentinels z most (field n (2 + side)) (links n side number.0 low lt));
           hand = λ n side p j number lt is. absurd (no_other sentinels z n (in_hand p j) is (λ bad. absurd cc) (λ r bad. absurd cc));
@@ -262,6 +263,7 @@ module _ {E A W : Type 0} (sides sentinels : ℕ) (head : ℕ → ℕ) (field : 
             };
         apart = once_all_dealt sentinels own z (z.passes - 1);
         kept = λ o i. absurd (in_nil o i);
+        met = λ o i. absurd (in_nil o i);
       } in record {
         seat_of = seats;
         each_seat = λ j u at. let first : j ≡ 0 = only u v j at in

@@ -36,7 +36,7 @@ words_at word low (suc n) zero lt = ap word (let same : low ≡ low + 0 = omega 
 words_at word low (suc n) (suc k) lt = words_at word (low + 1) n k (omega arith)
     ∙ ap word (let same : low + 1 + k ≡ low + suc k = omega arith in same)
 
-length_fields : (field : ℕ → ℕ → ℕ) (low n : ℕ) → length (fields_from field low n) ≡ 4 * n
+length_fields : (field : ℕ → ℕ → ℕ) (low n : ℕ) → length (fields_from field low n) ≡ 5 * n
 unfolding fields_from
 length_fields field low zero = refl
 length_fields field low (suc n) = let was = length_fields field (low + 1) n in omega arith
@@ -44,16 +44,20 @@ length_fields field low (suc n) = let was = length_fields field (low + 1) n in o
 same_field : (field : ℕ → ℕ → ℕ) (n m f g : ℕ) → n ≡ m → f ≡ g → field n f ≡ field m g
 same_field field n m f g a b = ap (λ k. field k f) a ∙ ap (field m) b
 
-fields_at : (field : ℕ → ℕ → ℕ) (low n k m f : ℕ) → k ≡ 4 * m + f → f < 4 → m < n → get_or (fields_from field low n) k 0 ≡ field
+fields_at : (field : ℕ → ℕ → ℕ) (low n k m f : ℕ) → k ≡ 5 * m + f → f < 5 → m < n → get_or (fields_from field low n) k 0 ≡ field
     (low + m) f
 unfolding fields_from
-fields_at field low zero k m f e four lt = absurd (omega arith)
-fields_at field low (suc n) zero m f e four lt = same_field field low (low + m) 0 f (omega arith) (omega arith)
-fields_at field low (suc n) (suc zero) m f e four lt = same_field field low (low + m) 1 f (omega arith) (omega arith)
-fields_at field low (suc n) (suc (suc zero)) m f e four lt = same_field field low (low + m) 2 f (omega arith) (omega arith)
-fields_at field low (suc n) (suc (suc (suc zero))) m f e four lt = same_field field low (low + m) 3 f (omega arith) (omega arith)
-fields_at field low (suc n) (suc (suc (suc (suc k)))) zero f e four lt = absurd (omega arith)
-fields_at field low (suc n) (suc (suc (suc (suc k)))) (suc m) f e four lt = fields_at field (low + 1) n k m f (omega arith) four
+fields_at field low zero k m f e five_fields lt = absurd (omega arith)
+fields_at field low (suc n) zero m f e five_fields lt = same_field field low (low + m) 0 f (omega arith) (omega arith)
+fields_at field low (suc n) (suc zero) m f e five_fields lt = same_field field low (low + m) 1 f (omega arith) (omega arith)
+fields_at field low (suc n) (suc (suc zero)) m f e five_fields lt = same_field field low (low + m) 2 f (omega arith) (omega arith)
+fields_at field low (suc n) (suc (suc (suc zero))) m f e five_fields lt =
+    same_field field low (low + m) 3 f (omega arith) (omega arith)
+fields_at field low (suc n) (suc (suc (suc (suc zero)))) m f e five_fields lt =
+    same_field field low (low + m) 4 f (omega arith) (omega arith)
+fields_at field low (suc n) (suc (suc (suc (suc (suc k))))) zero f e five_fields lt = absurd (omega arith)
+fields_at field low (suc n) (suc (suc (suc (suc (suc k))))) (suc m) f e five_fields lt =
+    fields_at field (low + 1) n k m f (omega arith) five_fields
     (omega arith)
     ∙ same_field field (low + 1 + m) (low + suc m) f f (omega arith) refl
 
@@ -64,15 +68,15 @@ module _ (sentinels : ℕ) (head : ℕ → ℕ) (field : ℕ → ℕ → ℕ) (z
       let low : List ℕ = replicate (1 + 17 * z.passes) 0 in
       let heads : List ℕ = words_from head 0 z.heads in
       let fields : List ℕ = fields_from field 1 sentinels in
-      let rest : List ℕ = replicate (4 * (z.records - sentinels)) 0 in
+      let rest : List ℕ = replicate (5 * (z.records - sentinels)) 0 in
       let a : length (low ++ (heads ++ (fields ++ rest))) ≡ length low + length (heads ++ (fields ++ rest)) = length-append low
       (heads ++ (fields ++ rest)) in
       let b : length (heads ++ (fields ++ rest)) ≡ length heads + length (fields ++ rest) = length-append heads (fields ++ rest) in
       let c : length (fields ++ rest) ≡ length fields + length rest = length-append fields rest in
       let l : length low ≡ 1 + 17 * z.passes = length-replicate (1 + 17 * z.passes) 0 in
       let h : length heads ≡ z.heads = length_words head 0 z.heads in
-      let f : length fields ≡ 4 * sentinels = length_fields field 1 sentinels in
-      let r : length rest ≡ 4 * (z.records - sentinels) = length-replicate (4 * (z.records - sentinels)) 0 in omega arith
+      let f : length fields ≡ 5 * sentinels = length_fields field 1 sentinels in
+      let r : length rest ≡ 5 * (z.records - sentinels) = length-replicate (5 * (z.records - sentinels)) 0 in omega arith
 
   -- the hazard words and the shelf words are 0
   low_word : (k : ℕ) → k < 1 + 17 * z.passes → get_or (opening_words sentinels head field z) k 0 ≡ 0
@@ -80,7 +84,8 @@ module _ (sentinels : ℕ) (head : ℕ → ℕ) (field : ℕ → ℕ → ℕ) (z
   low_word k lt =
       let low : List ℕ = replicate (1 + 17 * z.passes) 0 in
       let l : length low ≡ 1 + 17 * z.passes = length-replicate (1 + 17 * z.passes) 0 in
-      get_first low (words_from head 0 z.heads ++ (fields_from field 1 sentinels ++ replicate (4 * (z.records - sentinels)) 0)) k 0
+      get_first low (words_from head 0 z.heads ++
+      (fields_from field 1 sentinels ++ replicate (5 * (z.records - sentinels)) 0)) k 0
       (omega arith)
       ∙ each_replicate (1 + 17 * z.passes) k 0
 
@@ -90,7 +95,7 @@ module _ (sentinels : ℕ) (head : ℕ → ℕ) (field : ℕ → ℕ → ℕ) (z
 
   pub opening_frontier : (p j : ℕ) → p < z.passes → j < 4 → frontier_word (opening_words sentinels head field z) z p j ≡ 0
   unfolding frontier_word
-  opening_frontier p j low four = low_word (frontier_place z p j) (omega arith)
+  opening_frontier p j low five_fields = low_word (frontier_place z p j) (omega arith)
 
   pub opening_shelf : (j : ℕ) → j < 8 * z.passes → shelf_word (opening_words sentinels head field z) z j ≡ 0
   unfolding shelf_word
@@ -101,41 +106,42 @@ module _ (sentinels : ℕ) (head : ℕ → ℕ) (field : ℕ → ℕ → ℕ) (z
   opening_head h low_h =
       let low : List ℕ = replicate (1 + 17 * z.passes) 0 in
       let heads : List ℕ = words_from head 0 z.heads in
-      let rest : List ℕ = fields_from field 1 sentinels ++ replicate (4 * (z.records - sentinels)) 0 in
+      let rest : List ℕ = fields_from field 1 sentinels ++ replicate (5 * (z.records - sentinels)) 0 in
       let l : length low ≡ 1 + 17 * z.passes = length-replicate (1 + 17 * z.passes) 0 in
       let n : length heads ≡ z.heads = length_words head 0 z.heads in
       get_later low (heads ++ rest) h (head_place z h) 0 (omega arith) ∙ (get_first heads rest h 0 (omega arith)
       ∙ (words_at head 0 z.heads h low_h ∙ ap head (let same : 0 + h ≡ h = omega arith in same)))
 
   -- the fields of the sentinels
-  pub opening_field : (n f : ℕ) → 1 ≤ n → n ≤ sentinels → f < 4 → cell_word (opening_words sentinels head field z) z n f ≡ field n f
+  pub opening_field : (n f : ℕ) → 1 ≤ n → n ≤ sentinels → f < 5
+      → cell_word (opening_words sentinels head field z) z n f ≡ field n f
   unfolding cell_word opening_words
-  opening_field n f one most four =
+  opening_field n f one most five_fields =
       let low : List ℕ = replicate (1 + 17 * z.passes) 0 in
       let heads : List ℕ = words_from head 0 z.heads in
       let fields : List ℕ = fields_from field 1 sentinels in
-      let rest : List ℕ = replicate (4 * (z.records - sentinels)) 0 in
+      let rest : List ℕ = replicate (5 * (z.records - sentinels)) 0 in
       let l : length low ≡ 1 + 17 * z.passes = length-replicate (1 + 17 * z.passes) 0 in
       let m : length heads ≡ z.heads = length_words head 0 z.heads in
-      let k : length fields ≡ 4 * sentinels = length_fields field 1 sentinels in
-      get_later low (heads ++ (fields ++ rest)) (z.heads + (4 * (n - 1) + f)) (cell_place z n f) 0 (omega arith)
-      ∙ (get_later heads (fields ++ rest) (4 * (n - 1) + f) (z.heads + (4 * (n - 1) + f)) 0 (omega arith)
-      ∙ (get_first fields rest (4 * (n - 1) + f) 0 (omega arith)
-      ∙ (fields_at field 1 sentinels (4 * (n - 1) + f) (n - 1) f refl four (omega arith)
+      let k : length fields ≡ 5 * sentinels = length_fields field 1 sentinels in
+      get_later low (heads ++ (fields ++ rest)) (z.heads + (5 * (n - 1) + f)) (cell_place z n f) 0 (omega arith)
+      ∙ (get_later heads (fields ++ rest) (5 * (n - 1) + f) (z.heads + (5 * (n - 1) + f)) 0 (omega arith)
+      ∙ (get_first fields rest (5 * (n - 1) + f) 0 (omega arith)
+      ∙ (fields_at field 1 sentinels (5 * (n - 1) + f) (n - 1) f refl five_fields (omega arith)
       ∙ same_field field (1 + (n - 1)) n f f (omega arith) refl)))
 
   -- every other record is empty
-  pub opening_cell : (n f : ℕ) → sentinels < n → f < 4 → cell_word (opening_words sentinels head field z) z n f ≡ 0
+  pub opening_cell : (n f : ℕ) → sentinels < n → f < 5 → cell_word (opening_words sentinels head field z) z n f ≡ 0
   unfolding cell_word opening_words
-  opening_cell n f high four =
+  opening_cell n f high five_fields =
       let low : List ℕ = replicate (1 + 17 * z.passes) 0 in
       let heads : List ℕ = words_from head 0 z.heads in
       let fields : List ℕ = fields_from field 1 sentinels in
-      let rest : List ℕ = replicate (4 * (z.records - sentinels)) 0 in
+      let rest : List ℕ = replicate (5 * (z.records - sentinels)) 0 in
       let l : length low ≡ 1 + 17 * z.passes = length-replicate (1 + 17 * z.passes) 0 in
       let m : length heads ≡ z.heads = length_words head 0 z.heads in
-      let k : length fields ≡ 4 * sentinels = length_fields field 1 sentinels in
-      get_later low (heads ++ (fields ++ rest)) (z.heads + (4 * (n - 1) + f)) (cell_place z n f) 0 (omega arith)
-      ∙ (get_later heads (fields ++ rest) (4 * (n - 1) + f) (z.heads + (4 * (n - 1) + f)) 0 (omega arith)
-      ∙ (get_later fields rest (4 * (n - 1) + f - 4 * sentinels) (4 * (n - 1) + f) 0 (omega arith)
-      ∙ each_replicate (4 * (z.records - sentinels)) (4 * (n - 1) + f - 4 * sentinels) 0))
+      let k : length fields ≡ 5 * sentinels = length_fields field 1 sentinels in
+      get_later low (heads ++ (fields ++ rest)) (z.heads + (5 * (n - 1) + f)) (cell_place z n f) 0 (omega arith)
+      ∙ (get_later heads (fields ++ rest) (5 * (n - 1) + f) (z.heads + (5 * (n - 1) + f)) 0 (omega arith)
+      ∙ (get_later fields rest (5 * (n - 1) + f - 5 * sentinels) (5 * (n - 1) + f) 0 (omega arith)
+      ∙ each_replicate (5 * (z.records - sentinels)) (5 * (n - 1) + f - 5 * sentinels) 0))

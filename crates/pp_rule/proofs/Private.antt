@@ -43,9 +43,10 @@ reads_wrote z words new d f x number stored r = record {
   value = field 1 d.value (omega arith) r.value;
   left = field 2 d.left (omega arith) r.left;
   right = field 3 d.right (omega arith) r.right;
+  high = field 4 d.high (omega arith) r.high;
 }
   where
-    field : (g v : ℕ) → g < 4 → cell_word words z d.number g ≡ v → cell_word new z d.number g ≡ cond (eqb f g) x v
+    field : (g v : ℕ) → g < 5 → cell_word words z d.number g ≡ v → cell_word new z d.number g ≡ cond (eqb f g) x v
     field g v four was = dite (ℕ_discrete f g)
         (λ e. subst (λ (k : ℕ). cell_word new z d.number k ≡ x) e stored.here ∙ ap (λ (b : Bool). cond b x v) (sym (eq-eqb f g e)))
         (λ ne. stored.cells d.number g number four (λ same. ne (sym same.1)) ∙ (was ∙ ap (λ (b : Bool). cond b x v) (sym (ne_eqb f g ne))))
@@ -54,7 +55,7 @@ module _ {E A W : Type 0} (sides : ℕ) (z : Sizes) where
   -- A field of a private record of the pass is stored. No used record has that word, and no other private record.
   pub base_private_stored : (words : List ℕ) (g : PoolState E A W) (q : PassState W) (k f x : ℕ) (d : PrivateRecord) (s : LoggedStep E A)
       → Base sides z words g
-      → q.number < z.passes → g.of q.number ≡ q → get_elem? q.owned k ≡ some d → f < 4
+      → q.number < z.passes → g.of q.number ≡ q → get_elem? q.owned k ≡ some d → f < 5
       → SameUsed z g.status words (set words (cell_place z d.number f) x)
       × Base sides z (set words (cell_place z d.number f) x) (after_step g (with_private k (wrote f x d) q) g.status s)
   base_private_stored words g q k f x d s b pass is at four =
@@ -116,13 +117,14 @@ module _ {E A W : Type 0} (sides : ℕ) (opens : Sizes → List ℕ) (addition :
   -- A field of a private record may be stored.
   pub writes_private : KeptAlike sides addition → (z : Sizes) (slots id place k f x : ℕ) (d : PrivateRecord) (me : Me Unit
       (SeatView E A W)) → IsAlone me
-      → get_elem? me.0.known.owned k ≡ some d → f < 4 → place ≡ cell_place z d.number f
+      → get_elem? me.0.known.owned k ≡ some d → f < 5 → place ≡ cell_place z d.number f
       → Allows (Holds sides opens addition z) slots id me place (λ _. x)
       (λ _ m'. (m'.1 ≡ []) × MadeQuietStep write_step place x x (with_private k (wrote f x d) me.0.known) me.0 m'.0)
   writes_private alike z slots id place k f x d me lone at four at_place = let q : PassState W = me.0.known in
       let q' : PassState W = with_private k (wrote f x d) q in
       allows sides opens addition z slots id place write_step me (λ _. x) (λ _. x)
-      (λ _ m'. (m'.1 ≡ []) × MadeQuietStep write_step place x x q' me.0 m'.0) lone (λ m bad. absurd (false≢true (sym bad))) (λ m yes. refl)
+      (λ _ m'. (m'.1 ≡ []) × MadeQuietStep write_step place x x q' me.0 m'.0) lone (λ m bad. absurd (false≢true (sym bad)))
+      (λ m yes. refl) (λ m _. refl)
       (λ words g b add pass is sizes fits.
       let e : LoggedStep E A = entry write_step place x x [] [] g.order q' in
       let new : List ℕ = set words place x in

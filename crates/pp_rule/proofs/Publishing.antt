@@ -1,6 +1,6 @@
 -- A link of a head or of an attached record gets a word that leads to a private record: the record is published.
 use Rattle.std.proofs.Common.{◌≡◌, ◌≢◌, ◌⊎◌, ℕ, zero, suc, ◌+◌, ◌<◌, true, List, [], ◌∷◌, ◌++◌, length, get_or, set}
-use Rattle.std.proofs.Common.{refl, sym, ap, ◌∙◌, subst, inl, inr, ⊎_elim, arith}
+use Rattle.std.proofs.Common.{refl, sym, ap, ap₂, ◌∙◌, subst, inl, inr, ⊎_elim, arith}
 use Rattle.std.proofs.lemmas.List.{length-set}
 use Rattle.std.proofs.Math.Decide.{ℕ_discrete}
 use mathlib.Core.Logic.{dite}
@@ -12,9 +12,9 @@ use Rattle.pp_link.specs.Places.{IsNumber, head_place, cell_place}
 use Rattle.pp_link.specs.Words.{frontier_word, shelf_word, head_word, cell_word}
 use Rattle.pp_rule.specs.Lists.{IsIn, OnceBy, Once, remove_at}
 use Rattle.pp_rule.specs.Orders.{LoggedStep}
-use Rattle.pp_rule.specs.Views.{WalkSlot, blank, PrivateRecord, PassState, slot}
+use Rattle.pp_rule.specs.Views.{halves, WalkSlot, blank, PrivateRecord, PassState, slot}
 use Rattle.pp_rule.specs.States.{RecordState, attached, in_hand, retired, owned, shelved, IsUsed, IsStateIn, PoolState}
-use Rattle.pp_rule.specs.States.{IsSmall, Stays, SameTarget, Leads, Leaves, Held}
+use Rattle.pp_rule.specs.States.{IsSmall, Keeps, SameTarget, Leads, Leaves, Held}
 use Rattle.pp_rule.specs.Rule.{number_of, Numbers, PrivateWords, Hazards, Links, Shelves, Chains, Scans, Base}
 use Rattle.pp_rule.specs.Changes.{Gives, Publishes}
 use Rattle.pp_rule.proofs.Put.{put, put_here, put_else, put_each, in_nil}
@@ -154,10 +154,10 @@ module _ {E A W : Type 0} (sides : ℕ) (z : Sizes) (words : List ℕ) (g : Pool
         number = h.number;
         used = used_on w.named h.used;
         key = stored.fields w.named 0 h.number (omega arith) ∙ h.key;
-        value = stored.fields w.named 1 h.number (omega arith) ∙ h.value;
+        value = ap₂ halves (stored.fields w.named 1 h.number (omega arith)) (stored.high w.named h.number) ∙ h.value;
         learnt = λ l m. let was = h.learnt l m in (
           was.0,
-          subst (Stays l.1) (sym (stored.other_cell w.named (2 + l.0) (p.place_is.unlearnt r k l low five on m))) was.1,
+          subst (Keeps l.1) (sym (stored.other_cell w.named (2 + l.0) (p.place_is.unlearnt r k l low five on m))) was.1,
           was.2,
         );
       }

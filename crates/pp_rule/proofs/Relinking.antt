@@ -1,6 +1,6 @@
 -- The exchange of a link of a head or of an attached record for a word that leads on too.
 use Rattle.std.proofs.Common.{◌≡◌, ◌⊎◌, ℕ, ◌+◌, ◌<◌, List, set}
-use Rattle.std.proofs.Common.{sym, ap, ◌∙◌, subst, arith}
+use Rattle.std.proofs.Common.{sym, ap, ap₂, ◌∙◌, subst, arith}
 use Rattle.std.proofs.lemmas.List.{length-set}
 use Rattle.pp_link.specs.declared.layout.Sizes.{Sizes}
 use Rattle.pp_link.specs.Links.{target, invalid_bit}
@@ -8,8 +8,8 @@ use Rattle.pp_link.specs.Places.{IsNumber}
 use Rattle.pp_link.specs.Words.{cell_word}
 use Rattle.pp_rule.specs.Lists.{IsIn}
 use Rattle.pp_rule.specs.Orders.{LoggedStep}
-use Rattle.pp_rule.specs.Views.{WalkSlot, PassState, slot}
-use Rattle.pp_rule.specs.States.{attached, in_hand, retired, owned, PoolState, IsSmall, Stays, SameTarget, Leads, Leaves, Held}
+use Rattle.pp_rule.specs.Views.{halves, WalkSlot, PassState, slot}
+use Rattle.pp_rule.specs.States.{attached, in_hand, retired, owned, PoolState, IsSmall, Keeps, SameTarget, Leads, Leaves, Held}
 use Rattle.pp_rule.specs.Rule.{PrivateWords, Hazards, Links, Chains, Scans, Base}
 use Rattle.pp_rule.specs.Changes.{SameBase, Relinks}
 use Rattle.pp_rule.proofs.FreeLinks.{LinkStored, link_stored, head_has, cell_has}
@@ -56,10 +56,10 @@ module _ {E A W : Type 0} (sides : ℕ) (z : Sizes) (words : List ℕ) (g : Pool
           number = h.number;
           used = h.used;
           key = stored.fields w.named 0 h.number (omega arith) ∙ h.key;
-          value = stored.fields w.named 1 h.number (omega arith) ∙ h.value;
+          value = ap₂ halves (stored.fields w.named 1 h.number (omega arith)) (stored.high w.named h.number) ∙ h.value;
           learnt = λ l k. let was = h.learnt l k in (
             was.0,
-            subst (Stays l.1) (sym (stored.other_cell w.named (2 + l.0)
+            subst (Keeps l.1) (sym (stored.other_cell w.named (2 + l.0)
                 (r.place_is.unlearnt p i l low five on k))) was.1,
             was.2,
           );

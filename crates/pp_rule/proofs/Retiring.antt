@@ -347,7 +347,8 @@ module _ {E A W : Type 0} (sides : ℕ) (opens : Sizes → List ℕ) (addition :
   retires alike z slots id place c me lone at spent at_place = let q : PassState W = me.0.known in
       let q' : PassState W = retiring c q in
       allows sides opens addition z slots id place retire_step me (λ _. 0) (λ _. 0)
-      (λ _ m'. (m'.1 ≡ []) × MadeQuietStep retire_step place 0 0 q' me.0 m'.0) lone (λ m bad. absurd (false≢true (sym bad))) (λ m yes. refl)
+      (λ _ m'. (m'.1 ≡ []) × MadeQuietStep retire_step place 0 0 q' me.0 m'.0) lone (λ m bad. absurd (false≢true (sym bad)))
+      (λ m yes. refl) (λ m _. refl)
       (λ words g b add pass is sizes fits.
       let e : LoggedStep E A = entry retire_step place 0 0 [] [] g.order q' in
       let status : ℕ → RecordState = retired_status sides z words g q c b pass is at spent in

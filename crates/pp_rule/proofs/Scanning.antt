@@ -172,7 +172,7 @@ module _ {E A W : Type 0} (sides : ℕ) (opens : Sizes → List ℕ) (addition :
   scans_frontier z slots id place r j me lone low four read at = allows sides opens addition z slots id place scan_frontier_step me
       (λ n. n) (λ n. n)
       (λ n m'. (m'.1 ≡ []) × MadeQuietStep scan_frontier_step place n n (scanned n me.0.known) me.0 m'.0)
-      lone (λ m no. refl) (λ m bad. absurd (false≢true bad))
+      lone (λ m no. refl) (λ m bad. absurd (false≢true bad)) (λ m _. refl)
       (λ words g b add pass is sizes fits. scan_plays scan_frontier_step place z words g me.0 b add is sizes
       (λ s. subst (λ (k : ℕ). Base sides z words (after_step g (scanned (get_or words k 0) me.0.known) g.status s)) (sym at)
       (base_frontier_scanned sides z words g me.0.known r j s b pass is low four read)))
@@ -186,7 +186,7 @@ module _ {E A W : Type 0} (sides : ℕ) (opens : Sizes → List ℕ) (addition :
   scans_walk z slots id place r i me lone low five read at = allows sides opens addition z slots id place scan_walk_step me (λ n. n)
       (λ n. n)
       (λ n m'. (m'.1 ≡ []) × MadeQuietStep scan_walk_step place n n (scanned n me.0.known) me.0 m'.0)
-      lone (λ m no. refl) (λ m bad. absurd (false≢true bad))
+      lone (λ m no. refl) (λ m bad. absurd (false≢true bad)) (λ m _. refl)
       (λ words g b add pass is sizes fits. scan_plays scan_walk_step place z words g me.0 b add is sizes
       (λ s. subst (λ (k : ℕ). Base sides z words (after_step g (scanned (get_or words k 0) me.0.known) g.status s)) (sym at)
       (base_walk_scanned sides z words g me.0.known r i s b pass is low five read)))

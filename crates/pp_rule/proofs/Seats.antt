@@ -66,25 +66,26 @@ module _ {A : Type 0} where
   longer_one xs ys = either_way (leb (length xs) (length ys)) (λ le. inr (longer_second xs ys le)) (λ gt. inl (longer_first xs ys gt))
 
   -- the longer of two beginnings begins the list, and begins with both
-  longer_begins : (g xs ys : List A) → BeginsWith g xs → BeginsWith g ys → BeginsWith g (longer xs ys)
+  pub longer_begins : (g xs ys : List A) → BeginsWith g xs → BeginsWith g ys → BeginsWith g (longer xs ys)
   longer_begins g xs ys b c = either_way (leb (length xs) (length ys))
       (λ yes. subst (λ (l : List A). BeginsWith g l) (sym (longer_second xs ys yes)) c)
       (λ no. subst (λ (l : List A). BeginsWith g l) (sym (longer_first xs ys no)) b)
 
-  longer_left : (g xs ys : List A) → BeginsWith g xs → BeginsWith g ys → BeginsWith (longer xs ys) xs
+  pub longer_left : (g xs ys : List A) → BeginsWith g xs → BeginsWith g ys → BeginsWith (longer xs ys) xs
   longer_left g xs ys b c = either_way (leb (length xs) (length ys))
       (λ yes. subst (λ (l : List A). BeginsWith l xs) (sym (longer_second xs ys yes))
       (prefix_of xs ys b.0 c.0 (sym b.1 ∙ c.1) (leb-true (length xs) (length ys) yes)))
       (λ no. subst (λ (l : List A). BeginsWith l xs) (sym (longer_first xs ys no)) ([], sym (append-nil xs)))
 
-  longer_right : (g xs ys : List A) → BeginsWith g xs → BeginsWith g ys → BeginsWith (longer xs ys) ys
+  pub longer_right : (g xs ys : List A) → BeginsWith g xs → BeginsWith g ys → BeginsWith (longer xs ys) ys
   longer_right g xs ys b c = either_way (leb (length xs) (length ys))
       (λ yes. subst (λ (l : List A). BeginsWith l ys) (sym (longer_second xs ys yes)) ([], sym (append-nil ys)))
       (λ no. let below : length ys < length xs = leb-false (length xs) (length ys) no in
       subst (λ (l : List A). BeginsWith l ys) (sym (longer_first xs ys no)) (prefix_of ys xs c.0 b.0 (sym c.1 ∙ b.1) (omega arith)))
 
   -- where one of the two is the list, so is the longer
-  longer_full : (g xs ys : List A) → BeginsWith g xs → BeginsWith g ys → length g ≤ length xs ⊎ length g ≤ length ys → longer xs ys ≡ g
+  pub longer_full : (g xs ys : List A) → BeginsWith g xs → BeginsWith g ys → length g ≤ length xs ⊎ length g ≤ length ys
+      → longer xs ys ≡ g
   longer_full g xs ys b c full = either_way (leb (length xs) (length ys))
       (λ yes. let below : length xs ≤ length ys = leb-true (length xs) (length ys) yes in longer_second xs ys yes
       ∙ full_prefix g ys c (⊎_elim (λ (le : length g ≤ length xs). omega arith) (λ (le : length g ≤ length ys). le) full))
@@ -93,7 +94,7 @@ module _ {A : Type 0} where
 
 module _ {E A : Type 0} where
   -- an order between two that have the same steps of a pass has these too
-  made_between : (p : ℕ) (g l o : List (LoggedStep E A)) → BeginsWith g l → BeginsWith l o → made_by p o ≡ made_by p g
+  pub made_between : (p : ℕ) (g l o : List (LoggedStep E A)) → BeginsWith g l → BeginsWith l o → made_by p o ≡ made_by p g
       → made_by p l ≡ made_by p g
   made_between p g l o b c same =
       let outer : length (made_by p g) ≡ length (made_by p l) + length (made_by p b.0) = ap (λ o. length (made_by p o)) b.1
@@ -105,7 +106,7 @@ module _ {E A : Type 0} where
       sym (ap (made_by p) b.1 ∙ (made_append p l b.0 ∙ (ap (λ r. made_by p l ++ r) none ∙ append-nil (made_by p l))))
 
   -- where each pass that made one of these steps made none, there are none
-  none_made : (xs : List (LoggedStep E A)) → ((s : LoggedStep E A) → IsIn s xs → made_by s.entry.pass xs ≡ []) → xs ≡ []
+  pub none_made : (xs : List (LoggedStep E A)) → ((s : LoggedStep E A) → IsIn s xs → made_by s.entry.pass xs ≡ []) → xs ≡ []
   unfolding made_by entries_of
   none_made [] each = refl
   none_made (s ∷ xs) each =
@@ -117,7 +118,7 @@ module _ {E A : Type 0} where
 
 module _ {E A W : Type 0} (sides : ℕ) (opens : Sizes → List ℕ) (addition : Sizes → List ℕ → PoolState E A W → Type 0) (z : Sizes) where
   -- another seat's view stays tied where its passes keep their seat
-  tied_on : (g : PoolState E A W) (was now : ℕ → ℕ) (j : ℕ) (u : SeatView E A W) → ((p : ℕ) → was p ≡ j → now p ≡ j)
+  pub tied_on : (g : PoolState E A W) (was now : ℕ → ℕ) (j : ℕ) (u : SeatView E A W) → ((p : ℕ) → was p ≡ j → now p ≡ j)
       → Tied z g was j u → Tied z g now j u
   tied_on g was now j u on t = record {
     begins = t.begins;
@@ -125,6 +126,7 @@ module _ {E A W : Type 0} (sides : ℕ) (opens : Sizes → List ℕ) (addition :
         record { number = old.number; sizes = old.sizes; is = old.is; seat = on q.number old.seat; steps = old.steps };
     apart = t.apart;
     kept = λ o i. let old = t.kept o i in record { begins = old.begins; seat = on o.pass old.seat; steps = old.steps };
+    met = t.met;
   }
 
   -- a pass that is known in a view is known alone, in the seat that it has now
@@ -137,6 +139,7 @@ module _ {E A W : Type 0} (sides : ℕ) (opens : Sizes → List ℕ) (addition :
         (let old = t.each q at in record { number = old.number; sizes = old.sizes; is = old.is; seat = seat; steps = old.steps });
     apart = λ k l x y at_k at_l e. only x q k at_k ∙ sym (only y q l at_l);
     kept = λ o m. absurd (in_nil o m);
+    met = λ o m. absurd (in_nil o m);
   }
 
   -- The seat of the pass is the new one, and no other pass has another seat, since the view had each pass once.
@@ -172,6 +175,7 @@ module _ {E A W : Type 0} (sides : ℕ) (opens : Sizes → List ℕ) (addition :
                 };
                 apart = once_tail pass_number known (q ∷ qs) tied.apart;
                 kept = λ o i. absurd (in_nil o i);
+                met = λ o i. absurd (in_nil o i);
               }))
               (λ (c : (j ≢ id) × (get_elem? s.views j ≡ some u)). tied_on g t.seat_of now j u (on j c.0) (t.each_seat j u c.1))
               (at_set s.views id j left u old))
@@ -212,8 +216,8 @@ module _ {E A W : Type 0} (sides : ℕ) (opens : Sizes → List ℕ) (addition :
   deals id v q qs is = subst (λ (u : SeatView E A W). Splits (Holds sides opens addition z) id u (kept_part u) (dealt_part u)) (sym is)
       (deals_first id v.order v.known q qs)
 
-  -- The seats of the other's passes become the first one's. Both orders begin that of all steps, so the longer one begins with the
-  -- other, and has all steps of the passes of both.
+  -- The seats of the other's passes become the first one's. Both orders begin that of all steps, so the longer one begins with
+  -- the other, and has all steps of the passes of both.
   joins_alone : (id other : ℕ) (order : List (LoggedStep E A)) (known nobody : PassState W) (w : SeatView E A W) → w.standing ≡ true
       → Joins (Holds sides opens addition z) id (alone order known) other w (both_parts (alone order known) w) (spent_part nobody)
   unfolding taking
@@ -255,6 +259,7 @@ module _ {E A W : Type 0} (sides : ℕ) (opens : Sizes → List ℕ) (addition :
                 each = λ q i. absurd (in_nil q i);
                 apart = λ k l x y at_k at_l e. absurd (in_nil x (k, at_k));
                 kept = λ o i. absurd (in_nil o i);
+                met = λ o i. absurd (in_nil o i);
               })
               (λ (c : (j ≢ other) × (get_elem? (set s.views id both) j ≡ some u)). ⊎_elim
               (λ (d : (j ≡ id) × (both ≡ u)). subst (λ (u : SeatView E A W). Tied z g now j u) d.1
@@ -288,6 +293,7 @@ module _ {E A W : Type 0} (sides : ℕ) (opens : Sizes → List ℕ) (addition :
                     record { begins = k.begins; seat = comes o.pass k.seat; steps = k.steps })
                     (in_cases o (order_of w) w.kept later))
                     (in_cases o (order_of v) (order_of w ∷ w.kept) i);
+                met = λ o i. absurd (in_nil o i);
               }))
               (λ (d : (j ≢ id) × (get_elem? s.views j ≡ some u)). tied_on g t.seat_of now j u (stays j c.0) (t.each_seat j u d.1))
               (at_set s.views id j both u c.1))
@@ -346,6 +352,7 @@ module _ {E A W : Type 0} (sides : ℕ) (opens : Sizes → List ℕ) (addition :
                 each = λ q i. absurd (in_nil q i);
                 apart = λ k l x y at_k at_l e. absurd (in_nil x (k, at_k));
                 kept = λ o i. absurd (in_nil o i);
+                met = λ o i. absurd (in_nil o i);
               })
               (at_end (set s.views id v) told u j is);
           last = (

@@ -16,7 +16,7 @@ use Rattle.pp_rule.proofs.Seats.{either_way}
 
 -- a free record as it opens
 abbrev pub empty : ℕ → PrivateRecord
-empty n = record { number = n; key = 0; value = 0; left = 0; right = 0 }
+empty n = record { number = n; key = 0; value = 0; left = 0; right = 0; high = 0 }
 
 pub in_records : (low n : ℕ) (d : PrivateRecord) → IsIn d (records_from low n) → (low ≤ d.number) × (d.number < low + n) ×
     (d ≡ empty d.number)

@@ -7,7 +7,7 @@ use mathlib.Core.Logic.{dite}
 use Rattle.pp_rule.specs.Views.{WalkSlot, naming, blank, PassState, slot, guarding}
 use Rattle.pp_rule.specs.Looks.{StillHeld, HoldsOn, SameOwn, Clears}
 
-still_self : (s : WalkSlot) → s.held ≡ true → StillHeld s s
+pub still_self : (s : WalkSlot) → s.held ≡ true → StillHeld s s
 still_self s h = record { held = h; named = refl; key = refl; value = refl; learnt = λ l i. i }
 
 module _ {W : Type 0} where

@@ -7,7 +7,7 @@ use Rattle.atomic_table.specs.Table.{Me, keeps, Allows}
 use Rattle.atomic_table.proofs.Lists.{at_set, set_here}
 use Rattle.pp_link.specs.declared.layout.Sizes.{Sizes}
 use Rattle.pp_rule.specs.Lists.{IsIn}
-use Rattle.pp_rule.specs.Orders.{LoggedStep, stores}
+use Rattle.pp_rule.specs.Orders.{LoggedStep, stores, only_loads, KeepsWord}
 use Rattle.pp_rule.specs.Views.{PassState, SeatView, all_of}
 use Rattle.pp_rule.specs.States.{RecordState, PoolState}
 use Rattle.pp_rule.specs.Rule.{Base}
@@ -49,6 +49,7 @@ module _ {E A W : Type 0} where
                   (subst (λ (q : PassState W). TiedPass z g' t.seat_of id (g.order ++ s ∷ []) q) (in_one q known i) itself);
               apart = λ k l q r at_k at_l _. only q known k at_k ∙ sym (only r known l at_l);
               kept = λ o i. absurd (in_nil o i);
+              met = λ o i. absurd (in_nil o i);
             })
             (λ (c : (j ≢ id) × (get_elem? views j ≡ some u)). others t.seat_of j u c.0 (t.each_seat j u c.1) seat)
             (at_set views id j w u is);
@@ -78,13 +79,15 @@ module _ {E A W : Type 0} where
               seat = old.seat;
               steps = old.steps ∙ sym (made_else o.pass g.order s (λ same. other (sym same ∙ pass)));
             };
+        met = λ o i. begins_more g.order o (s ∷ []) (was.met o i);
       }
 
   pub runs_after : (opens words : List ℕ) (order : List (LoggedStep E A)) (known : PassState W) (kind place word left : ℕ)
       (changes : List E) (placed : List A)
       → Runs opens words order → (stores kind ≡ false → word ≡ get_or words place 0) → (stores kind ≡ true → word ≡ left)
+      → (only_loads kind ≡ true → left ≡ word)
       → Runs opens (set words place left) (order ++ entry kind place word left changes placed order known ∷ [])
-  runs_after opens words order known kind place word left changes placed r found stored =
+  runs_after opens words order known kind place word left changes placed r found stored kept =
       let s : LoggedStep E A = entry kind place word left changes placed order known in record {
         leaves = replayed_more opens order s ∙ ap (λ (ws : List ℕ). set ws place left) r.leaves;
         finds = run_more opens order s r.finds record {
@@ -92,6 +95,9 @@ module _ {E A W : Type 0} where
               ∙ ap (λ (ws : List ℕ). get_or ws place 0) (sym r.leaves);
           wrote = stored;
         } refl;
+        kept = λ m i. ⊎_elim (r.kept m)
+            (λ (last : IsIn m (s ∷ [])). subst (λ (m : LoggedStep E A). KeepsWord m) (in_one m s last) kept)
+            (in_either m order (s ∷ []) i);
       }
 
 module _ {E A W : Type 0} (sides : ℕ) (opens : Sizes → List ℕ) (addition : Sizes → List ℕ → PoolState E A W → Type 0) where
@@ -120,12 +126,13 @@ module _ {E A W : Type 0} (sides : ℕ) (opens : Sizes → List ℕ) (addition :
   pub allows_by : (z : Sizes) (slots id place : ℕ) (kind : ℕ → ℕ) (me : Me Unit (SeatView E A W)) (change noted : ℕ → ℕ)
       (then : ℕ → Me Unit (SeatView E A W) → Type 0) → IsAlone me
       → ((n : ℕ) → stores (kind n) ≡ false → noted n ≡ n) → ((n : ℕ) → stores (kind n) ≡ true → noted n ≡ change n)
+      → ((n : ℕ) → only_loads (kind n) ≡ true → change n ≡ noted n)
       → ((words : List ℕ) (g : PoolState E A W) → Base sides z words g → addition z words g → me.0.known.number < z.passes
       → g.of me.0.known.number ≡ me.0.known → me.0.known.sizes ≡ z → get_or words place 0 < 18446744073709551616
       → Plays (kind (get_or words place 0)) place (noted (get_or words place 0)) (change (get_or words place 0)) z words g me.0 (then
       (get_or words place 0)))
       → Allows (Holds sides opens addition z) slots id me place change then
-  allows_by z slots id place kind me change noted then lone found stored each =
+  allows_by z slots id place kind me change noted then lone found stored kept each =
       subst (λ (c : List (ℕ × Unit)). Allows (Holds sides opens addition z) slots id (me.0, c) place change then) (sym lone.0)
       (λ s h deep at fits. let v : SeatView E A W = me.0 in
       let g : PoolState E A W = h.pool in
@@ -143,7 +150,7 @@ module _ {E A W : Type 0} (sides : ℕ) (opens : Sizes → List ℕ) (addition :
           pool = after_step g did.known did.status e;
           ties = ties_after z s.views g id v did.known did.status e h.ties at lone.1 did.keeps_rule.number did.keeps_rule.sizes refl;
           runs = runs_after (opens z) s.words g.order did.known (kind n) place (noted n) (change n) did.changes did.placed h.runs
-              (found n) (stored n);
+              (found n) (stored n) (kept n);
           base = did.keeps_rule.base;
           added = did.keeps_rule.added;
         },
@@ -154,9 +161,10 @@ module _ {E A W : Type 0} (sides : ℕ) (opens : Sizes → List ℕ) (addition :
   pub allows : (z : Sizes) (slots id place kind : ℕ) (me : Me Unit (SeatView E A W)) (change noted : ℕ → ℕ)
       (then : ℕ → Me Unit (SeatView E A W) → Type 0) → IsAlone me
       → ((n : ℕ) → stores kind ≡ false → noted n ≡ n) → ((n : ℕ) → stores kind ≡ true → noted n ≡ change n)
+      → ((n : ℕ) → only_loads kind ≡ true → change n ≡ noted n)
       → ((words : List ℕ) (g : PoolState E A W) → Base sides z words g → addition z words g → me.0.known.number < z.passes
       → g.of me.0.known.number ≡ me.0.known → me.0.known.sizes ≡ z → get_or words place 0 < 18446744073709551616
       → Plays kind place (noted (get_or words place 0)) (change (get_or words place 0)) z words g me.0 (then (get_or words place 0)))
       → Allows (Holds sides opens addition z) slots id me place change then
-  allows z slots id place kind me change noted then lone found stored each = allows_by z slots id place
-      (λ _. kind) me change noted then lone found stored each
+  allows z slots id place kind me change noted then lone found stored kept each = allows_by z slots id place
+      (λ _. kind) me change noted then lone found stored kept each

@@ -9,7 +9,7 @@ use Rattle.pp_link.specs.Places.{walk_place, cell_place}
 use Rattle.pp_link.specs.Words.{walk_word, frontier_word, cell_word}
 use Rattle.pp_link.proofs.Stores.{walk_stored}
 use Rattle.pp_rule.specs.Orders.{LoggedStep, announce_step, clear_step, read_step}
-use Rattle.pp_rule.specs.Views.{WalkSlot, naming, PassState, SeatView, slot}
+use Rattle.pp_rule.specs.Views.{Halves, WalkSlot, naming, PassState, SeatView, slot}
 use Rattle.pp_rule.specs.States.{PoolState, Held}
 use Rattle.pp_rule.specs.Rule.{Base}
 use Rattle.pp_rule.specs.Ties.{Holds}
@@ -95,7 +95,7 @@ module _ {E A W : Type 0} (sides : ℕ) (opens : Sizes → List ℕ) (addition :
       let q' : PassState W = with_walk i (naming n) q in
       allows sides opens addition z slots id place announce_step me (λ _. n) (λ _. n)
       (λ _ m'. (m'.1 ≡ []) × MadeQuietStep announce_step place n n q' me.0 m'.0) lone (λ m bad. absurd (false≢true (sym bad)))
-      (λ m yes. refl)
+      (λ m yes. refl) (λ m _. refl)
       (λ words g b add pass is sizes fits.
       let e : LoggedStep E A = entry announce_step place n n [] [] g.order q' in
       let new : List ℕ = set words place n in
@@ -132,7 +132,8 @@ module _ {E A W : Type 0} (sides : ℕ) (opens : Sizes → List ℕ) (addition :
   clears_word forget clears z slots id place i me lone lt at = let q : PassState W = me.0.known in
       let q' : PassState W = clearing forget i q in
       allows sides opens addition z slots id place clear_step me (λ _. 0) (λ _. 0)
-      (λ _ m'. (m'.1 ≡ []) × MadeQuietStep clear_step place 0 0 q' me.0 m'.0) lone (λ m bad. absurd (false≢true (sym bad))) (λ m yes. refl)
+      (λ _ m'. (m'.1 ≡ []) × MadeQuietStep clear_step place 0 0 q' me.0 m'.0) lone (λ m bad. absurd (false≢true (sym bad)))
+      (λ m yes. refl) (λ m _. refl)
       (λ words g b add pass is sizes fits.
       let e : LoggedStep E A = entry clear_step place 0 0 [] [] g.order q' in
       let new : List ℕ = set words place 0 in
@@ -176,7 +177,7 @@ module _ {E A W : Type 0} (sides : ℕ) (opens : Sizes → List ℕ) (addition :
   reads_field alike z slots id place i field me lone lt on at = let q : PassState W = me.0.known in
       allows sides opens addition z slots id place read_step me (λ n. n) (λ n. n) (λ n m'.
       (m'.1 ≡ []) × ReadField i field n place me.0 m'.0)
-      lone (λ m no. refl) (λ m bad. absurd (false≢true bad))
+      lone (λ m no. refl) (λ m bad. absurd (false≢true bad)) (λ m _. refl)
       (λ words g b add pass is sizes fits.
       let held : Held z words g.status (slot q i) = subst (λ (v : PassState W). (slot v i).held ≡ true
       → Held z words g.status (slot v i)) is
@@ -191,7 +192,10 @@ module _ {E A W : Type 0} (sides : ℕ) (opens : Sizes → List ℕ) (addition :
           record {
             made = made;
             key = λ e. ap (λ (k : ℕ). get_or words k 0) (at ∙ ap (cell_place z (slot q i).named) e) ∙ held.key;
-            value = λ e. ap (λ (k : ℕ). get_or words k 0) (at ∙ ap (cell_place z (slot q i).named) e) ∙ held.value;
+            low = λ e. ap (λ (k : ℕ). get_or words k 0) (at ∙ ap (cell_place z (slot q i).named) e)
+                ∙ ap (λ (v : Halves). v.low) held.value;
+            high = λ e. ap (λ (k : ℕ). get_or words k 0) (at ∙ ap (cell_place z (slot q i).named) e)
+                ∙ ap (λ (v : Halves). v.high) held.value;
           },
         );
       })

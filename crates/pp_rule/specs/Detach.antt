@@ -14,7 +14,7 @@ use Rattle.pp_rule.specs.Looks.{SameOwn}
 -- Nobody learnt a frozen link at this place, which is that of a link of a head or of an attached record.
 pub record IsFreeLink {E A W : Type 0} (z : Sizes) (g : PoolState E A W) (place : ℕ) : Type 0 where
   pub high : (place < total z) × (17 * z.passes < place)
-  pub holder : (n f : ℕ) → IsNumber z n → f < 4 → cell_place z n f ≡ place → (2 ≤ f) × (g.status n ≡ attached)
+  pub holder : (n f : ℕ) → IsNumber z n → f < 5 → cell_place z n f ≡ place → (2 ≤ f) × (f < 4) × (g.status n ≡ attached)
   pub unlearnt : (r i : ℕ) (l : ℕ × ℕ) → r < z.passes → i < 5 → (slot (g.of r) i).held ≡ true → IsIn l (slot (g.of r) i).learnt
       → cell_place z (slot (g.of r) i).named (2 + l.0) ≢ place
 
@@ -36,7 +36,7 @@ pub record Detaches {E A W : Type 0} (sides : ℕ) (z : Sizes) (words : List ℕ
   pub new_is : IsSmall new × (invalid_bit new ≡ 0) × (target new ≡ x)
   -- the place is that of a link of a head, or of an attached record that stays
   pub place_is : IsFreeLink z g place
-  pub stays : (n f : ℕ) → IsNumber z n → f < 4 → cell_place z n f ≡ place → IsIn n c.records → ⊥
+  pub stays : (n f : ℕ) → IsNumber z n → f < 5 → cell_place z n f ≡ place → IsIn n c.records → ⊥
   -- the frontier word of the chain names x, and guards no chain yet
   pub guard : c.guard < 4
   pub named : guarding q c.guard ≡ x
@@ -49,8 +49,11 @@ pub record Detached {E A W : Type 0} (z : Sizes) (g g' : PoolState E A W) (q : P
   pub order : IsQuietStep g.order g'.order
   pub passes : (p : ℕ) → p < z.passes → SameOwn (g.of p) (g'.of p)
 
--- An exchange of `first` for `new` to detach the chain c, which may find another word.
-pub record Exchanged {E A W : Type 0} (c : Chain) (first new found place : ℕ) (before after : SeatView E A W) : Type 0 where
+-- An exchange of `first` for `new` to detach the chain c, which may find another word. Of that it is known what a load of it
+-- would tell.
+pub record Exchanged {E A W : Type 0} (c : Chain) (first new found place : ℕ) (known : PassState W)
+    (before after : SeatView E A W)
+    : Type 0 where
   pub small : IsSmall found
   pub same : found ≡ first → MadeQuietStep detach_step place found new (detaching c before.known) before after
-  pub other : found ≢ first → MadeQuietStep missed_step place found found before.known before after
+  pub other : found ≢ first → MadeQuietStep missed_step place found found known before after

@@ -19,13 +19,6 @@ use Rattle.pp_rule.specs.Closing.{Gathers}
 abbrev pub Freezes : (ℕ → Bool) → Type 0
 Freezes frozen = (w : ℕ) → frozen w ≡ true → IsFrozen w
 
--- Where a chain may be detached, it stands in the order in which its links lead, from the record that the old word leads to up to
--- the one that the new word leads to.
-abbrev pub Chained : {W : Type 0} → ℕ → (List WalkSlot → W → ℕ → ℕ → ℕ → Chain) → (Sizes → List WalkSlot → W → ℕ → ℕ → ℕ → Type 0)
-    → Type 0
-Chained {W} sides chain may_detach = (z : Sizes) (walk : List WalkSlot) (own : W) (place guard first new : ℕ)
-    → may_detach z walk own place first new → IsChainTo sides guard (target first) (target new) (chain walk own guard first new)
-
 -- the heads and the sentinels' links lead to nil or to sentinels
 abbrev pub HeadsOpen : ℕ → (ℕ → ℕ) → Type 0
 HeadsOpen sentinels head = (h : ℕ) → OpensInto sentinels (head h)
@@ -65,6 +58,14 @@ module _ {E A W : Type 0} (sides : ℕ) (addition : Sizes → List ℕ → PoolS
         → guard < 4 → guarding q guard ≡ target new → IsUnused guard q
         → slice_index words place ≡ first → Detaches sides z words g q (chain q.walk q.own guard first new) place (target new) new
 
+    -- It stands in the order in which its links lead, from the record that the old word leads to up to the one that the new
+    -- word leads to.
+    abbrev pub Chained : Type 0
+    Chained = (z : Sizes) (words : List ℕ) (g : PoolState E A W) (q : PassState W) (place guard first new : ℕ)
+        → Base sides z words g
+        → addition z words g → q.number < z.passes → g.of q.number ≡ q → may_detach z q.walk q.own place first new
+        → slice_index words place ≡ first → IsChainTo sides guard (target first) (target new) (chain q.walk q.own guard first new)
+
     -- and that keeps the addition
     abbrev pub KeptDetached : Type 0
     KeptDetached = (z : Sizes) (words : List ℕ) (g g' : PoolState E A W) (q : PassState W) (place guard first new : ℕ)
@@ -74,11 +75,12 @@ module _ {E A W : Type 0} (sides : ℕ) (addition : Sizes → List ℕ → PoolS
         → slice_index words place ≡ first → Detaches sides z words g q (chain q.walk q.own guard first new) place (target new) new
         → Detached z g g' q (chain q.walk q.own guard first new) → addition z words g → addition z (slice_set words place new) g'
 
-  -- What a closed pool tells: its live numbers, its contents, and the placed calls of each pass.
-  abbrev pub Closes : (Sizes → List ℕ → List ℕ) → (ℕ → ℕ) → (Sizes → List ℕ → List Pair) → (Sizes → List E → List Pair → Type 0)
+  -- What a closed pool tells of what was gathered from its words: its live numbers, its contents, and the placed calls of each
+  -- pass.
+  abbrev pub Closes : (Sizes → List ℕ → List Pair → List ℕ → Type 0) → (ℕ → ℕ) → (Sizes → List E → List Pair → Type 0)
       → (Sizes → List E → ℕ → List A → Type 0) → Type 0
-  Closes alive live_count pairs tells tells_pass = (z : Sizes) (words : List ℕ) (g : PoolState E A W) → Base sides z words g
-      → addition z words g
-      → Gathers z (alive z words) × (length (alive z words) ≡ live_count (length (pairs z words))) × tells z (log_of g.order)
-      (pairs z words)
+  Closes gathered live_count tells tells_pass =
+      (z : Sizes) (words : List ℕ) (g : PoolState E A W) (contents : List Pair) (live : List ℕ)
+      → Base sides z words g → addition z words g → gathered z words contents live
+      → Gathers z live × (length live ≡ live_count (length contents)) × tells z (log_of g.order) contents
       × ((p : ℕ) → p < z.passes → tells_pass z (log_of g.order) p (placed_by p g.order))

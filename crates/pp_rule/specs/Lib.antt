@@ -3,8 +3,10 @@ pub mod Orders
 pub mod Views
 pub mod States
 pub mod Rule
+pub mod Reached
 pub mod Ties
 pub mod Steps
+pub mod Shelves
 pub mod Looks
 pub mod Paths
 pub mod Detach
@@ -12,3 +14,5 @@ pub mod Opening
 pub mod Closing
 pub mod Changes
 pub mod Laws
+pub mod Alone
+pub mod Causes

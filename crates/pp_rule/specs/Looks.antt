@@ -9,8 +9,8 @@ use Rattle.pp_rule.specs.Orders.{IsQuietStep}
 use Rattle.pp_rule.specs.Views.{WalkSlot, PassState, slot}
 use Rattle.pp_rule.specs.States.{attached, in_hand, IsUsed, IsLinked, PoolState, Stays}
 
--- The record that is held in a walk word still is, with the key and the value that it was published with, and what was learnt of it
--- is known.
+-- The record that is held in a walk word still is, with the key and the value that it was published with, and what was learnt
+-- of it is known.
 pub record StillHeld (s s' : WalkSlot) : Type 0 where
   pub held : s'.held ≡ true
   pub named : s'.named ≡ s.named
@@ -38,7 +38,7 @@ module _ {E A W : Type 0} where
   -- hand was in the same state: a chain may have been retired, and what was retired may have become free.
   pub record SameSeen (z : Sizes) (words words' : List ℕ) (g g' : PoolState E A W) : Type 0 where
     pub heads : (h : ℕ) → h < z.heads → head_word words' z h ≡ head_word words z h
-    pub cells : (n f : ℕ) → IsNumber z n → f < 4 → IsUsed (g'.status n) → cell_word words' z n f ≡ cell_word words z n f
+    pub cells : (n f : ℕ) → IsNumber z n → f < 5 → IsUsed (g'.status n) → cell_word words' z n f ≡ cell_word words z n f
     pub attached_on : (n : ℕ) → g.status n ≡ attached → g'.status n ≡ attached
     pub linked_was : (n : ℕ) → IsLinked (g'.status n) → g'.status n ≡ g.status n
     pub used_was : (n : ℕ) → IsUsed (g'.status n) → IsUsed (g.status n)
@@ -62,7 +62,8 @@ module _ {E A W : Type 0} where
     pub number : IsNumber z n
     pub hand : (p : ℕ) × ((j : ℕ) × (g.status n ≡ in_hand p j))
     pub heads : (h : ℕ) → h < z.heads → head_word words' z h ≡ head_word words z h
-    pub others : (m f : ℕ) → IsNumber z m → f < 4 → ((m ≡ n) × (f ≡ 2 + side) → ⊥) → cell_word words' z m f ≡ cell_word words z m f
+    pub others : (m f : ℕ) → IsNumber z m → f < 5 → ((m ≡ n) × (f ≡ 2 + side) → ⊥)
+        → cell_word words' z m f ≡ cell_word words z m f
     pub here : Stays (cell_word words z n (2 + side)) (cell_word words' z n (2 + side))
     pub invalid : invalid_bit (cell_word words' z n (2 + side)) ≡ 1
     pub status : (m : ℕ) → g'.status m ≡ g.status m

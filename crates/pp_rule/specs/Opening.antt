@@ -15,12 +15,13 @@ words_from word low (suc n) = word low ∷ words_from word (low + 1) n
 -- the fields of n records from the number low on
 unfoldable pub fields_from : (ℕ → ℕ → ℕ) → ℕ → ℕ → List ℕ
 fields_from field low zero = []
-fields_from field low (suc n) = field low 0 ∷ field low 1 ∷ field low 2 ∷ field low 3 ∷ fields_from field (low + 1) n
+fields_from field low (suc n) =
+    field low 0 ∷ field low 1 ∷ field low 2 ∷ field low 3 ∷ field low 4 ∷ fields_from field (low + 1) n
 
 -- the words with which a pool opens: all are 0 but the heads and the fields of the sentinels
 unfoldable pub opening_words : ℕ → (ℕ → ℕ) → (ℕ → ℕ → ℕ) → Sizes → List ℕ
 opening_words sentinels head field z = replicate (1 + 17 * z.passes) 0
-    ++ (words_from head 0 z.heads ++ (fields_from field 1 sentinels ++ replicate (4 * (z.records - sentinels)) 0))
+    ++ (words_from head 0 z.heads ++ (fields_from field 1 sentinels ++ replicate (5 * (z.records - sentinels)) 0))
 
 -- how many records a pass is given: an equal share of those that are no sentinels, and one of the rest
 abbrev pub share_of : ℕ → Sizes → ℕ → ℕ
@@ -39,7 +40,7 @@ numbers_from low (suc n) = low ∷ numbers_from (low + 1) n
 -- free records as they open
 unfoldable pub records_from : ℕ → ℕ → List PrivateRecord
 records_from low zero = []
-records_from low (suc n) = record { number = low; key = 0; value = 0; left = 0; right = 0 } ∷ records_from (low + 1) n
+records_from low (suc n) = record { number = low; key = 0; value = 0; left = 0; right = 0; high = 0 } ∷ records_from (low + 1) n
 
 module _ {W : Type 0} where
   -- what is known of the pass c at the opening

@@ -1,5 +1,5 @@
 -- The order of all steps.
-use Rattle.std.specs.Prelude.{◌≡◌, ℕ, Bool, cond, nat_eq, ◌||◌, List, [], ◌∷◌, ◌++◌, map}
+use Rattle.std.specs.Prelude.{◌≡◌, ℕ, Bool, true, cond, nat_eq, ◌||◌, List, [], ◌∷◌, ◌++◌, map}
 pub use Rattle.pp_model.specs.declared.steps.Step.{Step}
 pub use Rattle.pp_model.specs.declared.steps.OrderEntry.{OrderEntry}
 pub use Rattle.pp_model.specs.Pass.{replayed, changes_of, steps_of, FindsWord, IsExecution}
@@ -62,10 +62,24 @@ scan_frontier_step = 15
 abbrev pub scan_walk_step : ℕ
 scan_walk_step = 16
 
+-- an exchange of 0 for a free number at a shelf word
+abbrev pub shelve_step : ℕ
+shelve_step = 25
+
+-- a swap of 0 into a shelf word
+abbrev pub unshelve_step : ℕ
+unshelve_step = 26
+
 -- the kinds of step that store
 abbrev pub stores : ℕ → Bool
 stores kind = nat_eq kind write_step || nat_eq kind announce_step || nat_eq kind clear_step || nat_eq kind guard_step
     || nat_eq kind unguard_step || nat_eq kind retire_step
+
+-- The kinds of step that leave the word that they found: loads, and exchanges that found another word than they expected. 19
+-- and 24 are loads of the structures, at which a call that changes nothing may be placed.
+abbrev pub only_loads : ℕ → Bool
+only_loads kind = nat_eq kind load_step || nat_eq kind confirm_step || nat_eq kind read_step || nat_eq kind missed_step
+    || nat_eq kind scan_frontier_step || nat_eq kind scan_walk_step || nat_eq kind 19 || nat_eq kind 24
 
 module _ {E A : Type 0} where
   abbrev pub entry_of : LoggedStep E A → OrderEntry E
@@ -87,6 +101,10 @@ module _ {E A : Type 0} where
   unfoldable pub placed_by : ℕ → List (LoggedStep E A) → List A
   placed_by pass [] = []
   placed_by pass (s ∷ order) = cond (nat_eq s.entry.pass pass) (s.placed ++ placed_by pass order) (placed_by pass order)
+
+  -- a step that only loads leaves the word that it found
+  abbrev pub KeepsWord : LoggedStep E A → Type 0
+  KeepsWord s = only_loads s.entry.step.kind ≡ true → s.entry.left ≡ s.entry.step.word
 
   -- one step more, at which no change took effect and no call was placed
   pub record IsQuietStep (before after : List (LoggedStep E A)) : Type 0 where

@@ -15,6 +15,7 @@ pub record Reads (z : Sizes) (words : List ℕ) (d : PrivateRecord) : Type 0 whe
   pub value : cell_word words z d.number 1 ≡ d.value
   pub left : cell_word words z d.number 2 ≡ d.left
   pub right : cell_word words z d.number 3 ≡ d.right
+  pub high : cell_word words z d.number 4 ≡ d.high
 
 abbrev pub number_of : PrivateRecord → ℕ
 number_of d = d.number

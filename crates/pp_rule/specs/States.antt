@@ -1,12 +1,12 @@
 -- The states of a record, and what the rule knows beside the words and the views.
 use Rattle.std.specs.Prelude.{◌≡◌, ◌≢◌, ◌⊎◌, ℕ, ◌+◌, ◌*◌, ◌%◌, ◌<◌, List}
 use Rattle.pp_link.specs.declared.layout.Sizes.{Sizes}
-use Rattle.pp_link.specs.Links.{target, invalid_bit, flag_bit, leaf_bit}
+use Rattle.pp_link.specs.Links.{target, invalid_bit, flag_bit, tag_bit, leaf_bit}
 use Rattle.pp_link.specs.Places.{IsNumber}
 use Rattle.pp_link.specs.Words.{frontier_word, cell_word}
 use Rattle.pp_rule.specs.Lists.{IsIn}
 use Rattle.pp_rule.specs.Orders.{LoggedStep}
-use Rattle.pp_rule.specs.Views.{PassState, WalkSlot}
+use Rattle.pp_rule.specs.Views.{PassState, WalkSlot, halves}
 
 -- what a record is
 pub data RecordState : Type 0 where
@@ -70,6 +70,11 @@ pub record SameTarget (was now : ℕ) : Type 0 where
   pub flag_is : flag_bit now ≡ flag_bit was
   pub leaf_is : leaf_bit now ≡ leaf_bit was
 
+-- a frozen link that was read keeps its target, FLAG and LEAF, and a TAG; it may get INVALID, and TAG beside FLAG
+pub record Keeps (was now : ℕ) : Type 0 where
+  pub same : SameTarget was now
+  pub tag : tag_bit was ≡ 1 → tag_bit now ≡ 1
+
 -- a link without INVALID that leads to nil or to an attached record
 pub record Leads (z : Sizes) (status : ℕ → RecordState) (w : ℕ) : Type 0 where
   pub small : IsSmall w
@@ -85,10 +90,10 @@ pub record Leaves (z : Sizes) (words : List ℕ) (status : ℕ → RecordState) 
       (target w)))))
 
 -- A held record is neither free nor private. It has the key and the value that it was published with, and the frozen links
--- that were learnt of it, but perhaps for INVALID.
+-- that were learnt of it, but perhaps for INVALID, and for TAG beside FLAG.
 pub record Held (z : Sizes) (words : List ℕ) (status : ℕ → RecordState) (w : WalkSlot) : Type 0 where
   pub number : IsNumber z w.named
   pub used : IsUsed (status w.named)
   pub key : cell_word words z w.named 0 ≡ w.key
-  pub value : cell_word words z w.named 1 ≡ w.value
-  pub learnt : (l : ℕ × ℕ) → IsIn l w.learnt → (l.0 < 2) × Stays l.1 (cell_word words z w.named (2 + l.0)) × IsFrozen l.1
+  pub value : halves (cell_word words z w.named 1) (cell_word words z w.named 4) ≡ w.value
+  pub learnt : (l : ℕ × ℕ) → IsIn l w.learnt → (l.0 < 2) × Keeps l.1 (cell_word words z w.named (2 + l.0)) × IsFrozen l.1

@@ -7,7 +7,8 @@ use Rattle.pp_link.specs.Places.{IsNumber, head_place, cell_place}
 use Rattle.atomic_table.specs.Table.{Me}
 use Rattle.pp_rule.specs.Lists.{IsIn, BeginsWith, without, without_all, first_of, rest_of, longer}
 use Rattle.pp_rule.specs.Orders.{LoggedStep, log_of, made_by, load_step, confirm_step, read_step, invalidate_step, scan_walk_step}
-use Rattle.pp_rule.specs.Views.{WalkSlot, naming, Chain, ChainLink, PrivateRecord, PassState, SeatView, JoinedOrder, all_of, slot}
+use Rattle.pp_rule.specs.Views.{WalkSlot, Halves, naming, Chain, ChainLink, PrivateRecord, PassState, SeatView, JoinedOrder}
+use Rattle.pp_rule.specs.Views.{all_of, slot}
 
 module _ {E A W : Type 0} where
   -- the entry of a step in the order, after the steps so far
@@ -24,15 +25,22 @@ module _ {E A W : Type 0} where
 
   -- the view of a pass that is alone in its seat
   abbrev pub alone : List (LoggedStep E A) → PassState W → SeatView E A W
-  alone order known = record { order = order; standing = true; known = known; taken = []; kept = [] }
+  alone order known = record { order = order; standing = true; known = known; taken = []; kept = []; met = [] }
 
   -- the view of a seat that stands for several passes, none of them joined
   abbrev pub several : List (LoggedStep E A) → PassState W → List (PassState W) → SeatView E A W
-  several order known taken = record { order = order; standing = true; known = known; taken = taken; kept = [] }
+  several order known taken = record { order = order; standing = true; known = known; taken = taken; kept = []; met = [] }
 
   -- a seat's own pass goes to a seat of its own, and the first of the others takes its place
   abbrev pub kept_part : SeatView E A W → SeatView E A W
-  kept_part v = record { order = v.order; standing = v.standing; known = first_of v.known v.taken; taken = rest_of v.taken; kept = v.kept }
+  kept_part v = record {
+    order = v.order;
+    standing = v.standing;
+    known = first_of v.known v.taken;
+    taken = rest_of v.taken;
+    kept = v.kept;
+    met = v.met;
+  }
 
   abbrev pub dealt_part : SeatView E A W → SeatView E A W
   dealt_part v = alone v.order v.known
@@ -49,14 +57,46 @@ module _ {E A W : Type 0} where
     known = v.known;
     taken = v.taken ++ all_of w;
     kept = order_of v ∷ order_of w ∷ w.kept;
+    met = [];
   }
 
   abbrev pub spent_part : PassState W → SeatView E A W
-  spent_part nobody = record { order = []; standing = false; known = nobody; taken = []; kept = [] }
+  spent_part nobody = record { order = []; standing = false; known = nobody; taken = []; kept = []; met = [] }
 
   -- what remembers a seat's view and stands for no pass
   abbrev pub told_part : SeatView E A W → SeatView E A W
-  told_part v = record { order = v.order; standing = false; known = v.known; taken = v.taken; kept = [] }
+  told_part v = record { order = v.order; standing = false; known = v.known; taken = v.taken; kept = []; met = [] }
+
+  -- the view of a seat that took over what another remembers: it has the longer order of the two, and keeps both
+  abbrev pub meeting_part : SeatView E A W → SeatView E A W → SeatView E A W
+  meeting_part v w = record {
+    order = longer v.order w.order;
+    standing = v.standing;
+    known = v.known;
+    taken = v.taken;
+    kept = order_of v ∷ v.kept;
+    met = w.order ∷ v.met;
+  }
+
+  -- the view of a seat that has seen all these steps, and keeps no other order
+  abbrev pub seeing : List (LoggedStep E A) → SeatView E A W → SeatView E A W
+  seeing order v = record {
+    order = order;
+    standing = v.standing;
+    known = v.known;
+    taken = v.taken;
+    kept = [];
+    met = [];
+  }
+
+  -- A load that is no step of the order. The seat has then seen all steps so far: they begin with each order that it kept, and
+  -- there is no further step of that order's pass.
+  pub record Learnt (v w : SeatView E A W) : Type 0 where
+    pub is : w ≡ seeing w.order v
+    pub begins : BeginsWith w.order v.order
+    pub met : (o : List (LoggedStep E A)) → IsIn o v.met → BeginsWith w.order o
+    pub kept : (o : JoinedOrder E A) → IsIn o v.kept → BeginsWith w.order o.order
+        × (made_by o.pass w.order ≡ made_by o.pass o.order)
 
   -- a seat with no slot, whose view is that of one pass
   abbrev pub IsAlone : Me Unit (SeatView E A W) → Type 0
@@ -108,7 +148,7 @@ module _ {W : Type 0} where
       (with_walk j (record (slot q j) { learnt = (side, word) ∷ (slot q j).learnt }) q) q
 
 -- the record n is held, which was published with this key and this value
-abbrev pub holding : ℕ → ℕ → ℕ → WalkSlot
+abbrev pub holding : ℕ → ℕ → Halves → WalkSlot
 holding n key value = record { named = n; held = true; key = key; value = value; learnt = [] }
 
 -- the private record with this word in this field
@@ -119,6 +159,7 @@ wrote f x d = record {
   value = cond (nat_eq f 1) x d.value;
   left = cond (nat_eq f 2) x d.left;
   right = cond (nat_eq f 3) x d.right;
+  high = cond (nat_eq f 4) x d.high;
 }
 
 -- the links of the list but this one
@@ -164,7 +205,8 @@ module _ {E A W : Type 0} where
   pub record ReadField (i field found place : ℕ) (before after : SeatView E A W) : Type 0 where
     pub made : MadeQuietStep read_step place found found before.known before after
     pub key : field ≡ 0 → found ≡ (slot before.known i).key
-    pub value : field ≡ 1 → found ≡ (slot before.known i).value
+    pub low : field ≡ 1 → found ≡ (slot before.known i).value.low
+    pub high : field ≡ 4 → found ≡ (slot before.known i).value.high
 
   -- A load of the link at this place. Where it is the link of a held record and frozen, it is learnt.
   pub record LoadedLink (known : PassState W) (found place : ℕ) (before after : SeatView E A W) : Type 0 where
@@ -173,13 +215,14 @@ module _ {E A W : Type 0} where
     -- where it is valid, it leads to nil or to a record of this pool
     pub to : invalid_bit found ≡ 0 → (target found ≡ 0) ⊎ IsNumber before.known.sizes (target found)
 
-  -- A confirming load: the record is held in the word i where the word found is the first one.
-  pub record Confirmed (i first found place : ℕ) (before after : SeatView E A W) : Type 0 where
+  -- A confirming load: the record is held in the word i where the word found is the first one. Of another word it is known what
+  -- a first load of it would tell.
+  pub record Confirmed (i first found place : ℕ) (known : PassState W) (before after : SeatView E A W) : Type 0 where
     pub small : found < 68719476736
     pub number : found ≡ first → IsNumber before.known.sizes (target first)
-    pub same : found ≡ first → (key : ℕ) × ((value : ℕ)
+    pub same : found ≡ first → (key : ℕ) × ((value : Halves)
         × MadeQuietStep confirm_step place found found (with_walk i (holding (target first) key value) before.known) before after)
-    pub other : found ≢ first → MadeQuietStep confirm_step place found found before.known before after
+    pub other : found ≢ first → MadeQuietStep confirm_step place found found known before after
 
   -- An or-step that sets INVALID in a link of the chain at the index k. The old word leads where the chain's link led.
   pub record Invalidated (k : ℕ) (c : Chain) (n side found place : ℕ) (before after : SeatView E A W) : Type 0 where

@@ -6,7 +6,7 @@ use Rattle.atomic_table.specs.Table.{State}
 use lib.ListN.{get_elem?}
 use mathlib.Core.Option.{some}
 use Rattle.pp_rule.specs.Lists.{IsIn, OnceBy, BeginsWith}
-use Rattle.pp_rule.specs.Orders.{LoggedStep, entries_of, made_by, replayed, IsExecution, stores}
+use Rattle.pp_rule.specs.Orders.{LoggedStep, entries_of, made_by, replayed, IsExecution, stores, KeepsWord}
 use Rattle.pp_rule.specs.Views.{PassState, JoinedOrder, SeatView, all_of}
 use Rattle.pp_rule.specs.States.{PoolState}
 use Rattle.pp_rule.specs.Rule.{Base}
@@ -38,6 +38,8 @@ module _ {E A W : Type 0} where
     pub each : (q : PassState W) → IsIn q (all_of v) → TiedPass z g seat_of j v.order q
     pub apart : OnceBy pass_number (all_of v)
     pub kept : (o : JoinedOrder E A) → IsIn o v.kept → TiedOrder g seat_of j o
+    -- the orders that met begin that of all steps
+    pub met : (o : List (LoggedStep E A)) → IsIn o v.met → BeginsWith g.order o
 
   pub record Ties (z : Sizes) (views : List (SeatView E A W)) (g : PoolState E A W) : Type 0 where
     -- the seat of each pass
@@ -53,6 +55,7 @@ module _ {E A : Type 0} where
   pub record Runs (opens words : List ℕ) (order : List (LoggedStep E A)) : Type 0 where
     pub leaves : replayed opens (entries_of order) ≡ words
     pub finds : IsExecution stores opens 0 (entries_of order)
+    pub kept : (s : LoggedStep E A) → IsIn s order → KeepsWord s
 
 module _ {E A W : Type 0} where
   -- The whole rule, with the addition of a shape whose records have so many links.

@@ -1,6 +1,7 @@
 -- Words on what a seat knows.
-use Rattle.std.specs.Prelude.{ℕ, false, cond, List, [], ◌∷◌, slice_index_or}
+use Rattle.std.specs.Prelude.{ℕ, ◌+◌, ◌*◌, ◌^◌, false, cond, List, [], ◌∷◌, slice_index_or}
 pub use Rattle.pp_rule.specs.declared.views.WalkSlot.{WalkSlot}
+pub use Rattle.pp_rule.specs.declared.views.Halves.{Halves}
 pub use Rattle.pp_rule.specs.declared.views.ChainLink.{ChainLink}
 pub use Rattle.pp_rule.specs.declared.views.Chain.{Chain}
 pub use Rattle.pp_rule.specs.declared.views.PrivateRecord.{PrivateRecord}
@@ -9,9 +10,17 @@ pub use Rattle.pp_rule.specs.declared.views.PassState.{PassState}
 pub use Rattle.pp_rule.specs.declared.views.JoinedOrder.{JoinedOrder}
 pub use Rattle.pp_rule.specs.declared.views.SeatView.{SeatView}
 
+-- the value of these two words
+abbrev pub halves : ℕ → ℕ → Halves
+halves low high = record { low = low; high = high }
+
+-- a value as one number
+abbrev pub value_of : Halves → ℕ
+value_of v = v.low + 2 ^ 64 * v.high
+
 -- the walk word names n, and nothing is held in it
 abbrev pub naming : ℕ → WalkSlot
-naming n = record { named = n; held = false; key = 0; value = 0; learnt = [] }
+naming n = record { named = n; held = false; key = 0; value = halves 0 0; learnt = [] }
 
 -- a walk word as it opens
 abbrev pub blank : WalkSlot

@@ -1,6 +1,7 @@
 //! What a structure adds to the rule of its pool.
 
-ghost use Rattle.std.specs.Prelude.{◌≡◌, ◌≢◌, ℕ, ◌+◌, ◌*◌, ◌<◌, ◌≤◌, Bool, true, false, List, [], length, slice_index, slice_set, vec_capacity};
+ghost use Rattle.std.specs.Prelude.{◌≡◌, ◌≢◌, ℕ, ◌+◌, ◌*◌, ◌<◌, ◌≤◌, Bool, true, false, List, [], length};
+ghost use Rattle.std.specs.Prelude.{slice_index, slice_set, vec_capacity};
 ghost use Rattle.pp_link.specs.declared.layout.Sizes.{Sizes};
 ghost use Rattle.pp_link.specs.Links.{word_of, target};
 ghost use Rattle.pp_link.specs.Places.{IsWithin, field_number};
@@ -12,6 +13,8 @@ ghost use Rattle.pp_rule.specs.Rule.{Base};
 ghost use Rattle.pp_rule.specs.Ties.{Holds};
 ghost use Rattle.pp_rule.specs.Opening.{opening_words, first_view};
 ghost use Rattle.pp_rule.specs.Laws.{Freezes, HeadsOpen, LinksOpen, MetAtOpening, KeptAlike, KeptCleared, KeptInvalid};
+ghost use Rattle.pp_rule.specs.Alone.{HasOwnChanges};
+ghost use Rattle.pp_rule.specs.Reached.{ReachesAll};
 ghost use Rattle.pp_rule.specs.Laws.{Chained, MayDetach, KeptDetached, Closes};
 
 use crate::views::{Chain, SeatView, WalkSlot};
@@ -72,10 +75,8 @@ pub trait Shape {
     // what a pass has to know by them for that exchange of the word at a place
     ghost may_detach: { Sizes → List WalkSlot → Self.Own → ℕ → ℕ → ℕ → Type 0 };
 
-    // the contents of closed words, and their live numbers
-    ghost pairs: { Sizes → List ℕ → List Pair };
-
-    ghost alive: { Sizes → List ℕ → List ℕ };
+    // what the contents and the live numbers of closed words are
+    ghost gathered: { Sizes → List ℕ → List Pair → List ℕ → Type 0 };
 
     // how many live numbers there are with so many pairs
     ghost live_count: { ℕ → ℕ };
@@ -85,6 +86,9 @@ pub trait Shape {
 
     // what it says of the placed calls of a pass
     ghost tells_pass: { Sizes → List Self.Entry → ℕ → List Self.Said → Type 0 };
+
+    // the pass to which a change belongs
+    ghost caller_of: { Self.Entry → ℕ };
 
     /// The word with which a field of a sentinel starts.
     fn opening(number: u32, field: Field) -> u64
@@ -98,11 +102,11 @@ pub trait Shape {
     /// Appends the pairs and the live numbers of a closed table. It takes no memory: both lists have room for all
     /// records.
     fn gather(layout: &Layout, words: &[u64], contents: &mut Vec<Pair>, live: &mut Vec<u32>)
-        requires rule { (g : PoolState Self.Entry Self.Said Self.Own) × Base SIDES layout.now words.now g × addition layout.now words.now g }
+        requires rule { (g : PoolState Self.Entry Self.Said Self.Own)
+            × Base SIDES layout.now words.now g × addition layout.now words.now g }
         requires none { (contents.old.items ≡ []) × (live.old.items ≡ []) }
         requires room { (layout.now.records ≤ vec_capacity contents.old) × (layout.now.records ≤ vec_capacity live.old) }
-        ensures contents { contents.new.items ≡ pairs layout.now words.now }
-        ensures live { live.new.items ≡ alive layout.now words.now };
+        ensures { gathered layout.now words.now contents.new.items live.new.items };
 
     // A structure has one link or two.
     ghost sided: { (1 ≤ SIDES) × (SIDES ≤ 2) };
@@ -124,13 +128,19 @@ pub trait Shape {
 
     ghost invalidates: { KeptInvalid SIDES addition };
 
-    ghost chained: { Chained SIDES chain may_detach };
+    // Each attached record can be reached from a head by links.
+    ghost reached: { ReachesAll SIDES addition };
+
+    ghost chained: { Chained SIDES addition chain may_detach };
 
     ghost detaches: { MayDetach SIDES addition chain may_detach };
 
     ghost detached: { KeptDetached SIDES addition chain may_detach };
 
-    ghost gathers: { Closes SIDES addition alive live_count pairs tells tells_pass };
+    // The changes of each step are those of the pass that made it.
+    ghost own_changes: { HasOwnChanges addition caller_of };
+
+    ghost gathers: { Closes SIDES addition gathered live_count tells tells_pass };
 }
 
 /// The rule of the table of a pool of this shape.

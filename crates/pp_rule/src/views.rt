@@ -10,6 +10,12 @@ pub struct LoggedStep<E, A> {
     pub placed: LinkedList<A>,
 }
 
+/// A value, by its low and its high 64 bits.
+pub struct Halves {
+    pub low: u64,
+    pub high: u64,
+}
+
 /// What a pass knows of one of its walk words.
 pub struct WalkSlot {
     /// What stands in the word.
@@ -18,7 +24,7 @@ pub struct WalkSlot {
     pub held: bool,
     /// What the record was published with, while it is held.
     pub key: u64,
-    pub value: u64,
+    pub value: Halves,
     /// The frozen links that were read, each with its side.
     pub learnt: LinkedList<(u64, u64)>,
 }
@@ -50,6 +56,7 @@ pub struct PrivateRecord {
     pub value: u64,
     pub left: u64,
     pub right: u64,
+    pub high: u64,
 }
 
 /// How far the reclaim pass of a pass has come.
@@ -90,4 +97,6 @@ pub struct SeatView<E, A, W> {
     pub taken: LinkedList<PassState<W>>,
     /// The orders of the seats that were joined.
     pub kept: LinkedList<JoinedOrder<E, A>>,
+    /// The orders that it took over from notes, until it has learnt that they begin that of all steps.
+    pub met: LinkedList<LinkedList<LoggedStep<E, A>>>,
 }

@@ -1,4 +1,4 @@
 pub mod Scenes
-pub mod Gathering
 pub mod Pulling
 pub mod Learning
+pub mod Putting

@@ -1,7 +1,9 @@
 -- What a pass knows as it pulls out a peg.
-use Rattle.std.proofs.Common.{◌≡◌, ℕ, ◌+◌, ◌*◌, ◌<◌, Bool, true, cond, [], ◌∷◌, length, refl, sym, ap, ◌∙◌, subst, arith}
+use Rattle.std.proofs.Common.{◌≡◌, ℕ, ◌*◌, ◌≤◌, ◌&&◌, Bool, true, cond, [], ◌∷◌, length, refl, sym, ap, ◌∙◌, subst}
+use Rattle.std.proofs.Common.{arith, eq-eqb}
 use Rattle.atomic_table.specs.declared.shared.Seat.{Seat}
 use Rattle.pp_link.specs.declared.layout.Sizes.{Sizes}
+use Rattle.pp_link.specs.Links.{flag_bit}
 use Rattle.pp_link.specs.Places.{head_place}
 use Rattle.pp_rule.specs.declared.views.WalkSlot.{WalkSlot}
 use Rattle.pp_rule.specs.declared.views.PassState.{PassState}
@@ -17,48 +19,58 @@ use Rattle.pp_base.specs.Passes.{known}
 use Rattle.pp_base.specs.Made.{LoadedAt}
 use Rattle.pp_base.specs.Sources.{learning_at}
 use Rattle.pp_base.specs.Row.{has_flag, Learnt}
-use Rattle.pp_scenes.specs.Pegs.{MayPull}
+use Rattle.pp_scenes.specs.Pegs.{next_peg, peg_link, MayPull}
 
 module _ {W : Type 0} where
-  -- what the pass knows once the link of the peg in its first walk word was read as nil with FLAG
-  abbrev learning_nil : PassState W → PassState W
-  learning_nil q = with_walk 0 (record (slot q 0) { learnt = (0, 1) ∷ (slot q 0).learnt }) q
+  -- what the pass knows once the link of the peg in its first walk word was read as this word
+  abbrev learning_link : ℕ → PassState W → PassState W
+  learning_link word q = with_walk 0 (record (slot q 0) { learnt = (0, word) ∷ (slot q 0).learnt }) q
 
-  nil_learnt : (q : PassState W) → (slot q 0).held ≡ true → learning_at has_flag (Walk 0) Left 1 q ≡ learning_nil q
-  nil_learnt q held = ap (λ (b : Bool). cond b (learning_nil q) q) held
+  link_learnt : (word : ℕ) (q : PassState W) → has_flag word ≡ true → (slot q 0).held ≡ true
+      → learning_at has_flag (Walk 0) Left word q ≡ learning_link word q
+  link_learnt word q flag held = ap (λ (b : Bool). cond (b && (slot q 0).held) (learning_link word q) q) flag
+      ∙ ap (λ (b : Bool). cond b (learning_link word q) q) held
 
   -- the peg is held, and its link is learnt
-  peg_learnt : (q : PassState W) (n : ℕ) → length q.walk ≡ 5 → (slot q 0).held ≡ true → (slot q 0).named ≡ n
-      → Learnt (learning_nil q).walk n 1
-  peg_learnt q n five held named = record {
+  peg_learnt : (q : PassState W) (n word : ℕ) → length q.walk ≡ 5 → (slot q 0).held ≡ true → (slot q 0).named ≡ n
+      → Learnt (learning_link word q).walk n word
+  peg_learnt q n word five held named = record {
     index = 0;
     index_low = omega arith;
     held = ap (λ (w : WalkSlot). w.held) here ∙ held;
     named = ap (λ (w : WalkSlot). w.named) here ∙ named;
-    learnt = subst (λ (w : WalkSlot). IsIn {A = ℕ × ℕ} (0, 1) w.learnt) (sym here) (0, refl);
+    learnt = subst (λ (w : WalkSlot). IsIn {A = ℕ × ℕ} (0, word) w.learnt) (sym here) (0, refl);
   }
     where
-      here : slot (learning_nil q) 0 ≡ record (slot q 0) { learnt = (0, 1) ∷ (slot q 0).learnt }
-      here = slot_here q (learning_nil q) 0 (record (slot q 0) { learnt = (0, 1) ∷ (slot q 0).learnt }) refl (omega arith)
+      here : slot (learning_link word q) 0 ≡ record (slot q 0) { learnt = (0, word) ∷ (slot q 0).learnt }
+      here = slot_here q (learning_link word q) 0 (record (slot q 0) { learnt = (0, word) ∷ (slot q 0).learnt }) refl
+          (omega arith)
+
+-- the link of a peg has FLAG
+peg_flag : (n : ℕ) → has_flag (peg_link n) ≡ true
+peg_flag n = eq-eqb (flag_bit (peg_link n)) 1 (omega arith)
 
 module _ {E A W : Type 0} where
-  learnt_then : (z : Sizes) (word : ℕ) (s s' : Seat Unit (SeatView E A W)) → LoadedAt z has_flag (Walk 0) Left word s s' → word ≡ 1
-      → (slot (known s) 0).held ≡ true → known s' ≡ learning_nil (known s)
-  learnt_then z word s s' loaded is held =
+  learnt_then : (z : Sizes) (word : ℕ) (s s' : Seat Unit (SeatView E A W)) → LoadedAt z has_flag (Walk 0) Left word s s'
+      → has_flag word ≡ true → (slot (known s) 0).held ≡ true → known s' ≡ learning_link word (known s)
+  learnt_then z word s s' loaded flag held =
       known_after _ _ _ _ [] [] (learning_at has_flag (Walk 0) Left word (known s)) s.me.0 s'.me.0 loaded.made
-      ∙ (ap (λ (w : ℕ). learning_at has_flag (Walk 0) Left w (known s)) is ∙ nil_learnt (known s) held)
+      ∙ link_learnt word (known s) flag held
 
-  -- A pass that holds the peg in its first walk word and has read its link may clear the head.
-  pub may_pull : (z : Sizes) (head first new word : ℕ) (s s' : Seat Unit (SeatView E A W)) → length (known s).walk ≡ 5
-      → LoadedAt z has_flag (Walk 0) Left word s s' → word ≡ 1 → (slot (known s) 0).held ≡ true → (slot (known s) 0).named ≡ head + 1
-      → head < 5 → head < z.heads → first ≡ 16 * (head + 1) → new ≡ 0 → MayPull z (known s').walk (head_place z head) first new
-  may_pull z head first new word s s' five loaded is held named few has first_is new_is = record {
-    head = head;
+  -- A pass that holds the peg in its first walk word and has read its link may lead the head past it.
+  pub may_pull : (z : Sizes) (peg first new word : ℕ) (s s' : Seat Unit (SeatView E A W)) → length (known s).walk ≡ 5
+      → LoadedAt z has_flag (Walk 0) Left word s s' → word ≡ peg_link peg → (slot (known s) 0).held ≡ true
+      → (slot (known s) 0).named ≡ peg
+      → 1 ≤ peg → peg ≤ 5 → first ≡ 16 * peg → new ≡ 16 * next_peg peg → MayPull z (known s').walk (head_place z 0) first new
+  may_pull z peg first new word s s' five loaded is held named some_is few first_is new_is = record {
+    peg = peg;
+    some_is = some_is;
     few = few;
-    has = has;
     place_is = refl;
     first_is = first_is;
     new_is = new_is;
-    learnt = subst (λ (q : PassState W). Learnt q.walk (head + 1) 1) (sym (learnt_then z word s s' loaded is held))
-        (peg_learnt (known s) (head + 1) five held named);
+    learnt = subst (λ (k : ℕ). Learnt (known s').walk peg k) is
+        (subst (λ (q : PassState W). Learnt q.walk peg word)
+        (sym (learnt_then z word s s' loaded (ap has_flag is ∙ peg_flag peg) held))
+        (peg_learnt (known s) peg word five held named));
   }

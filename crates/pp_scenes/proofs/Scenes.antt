@@ -1,5 +1,6 @@
 -- What a scene knows of the passes that it began with, and after one of them went on.
-use Rattle.std.proofs.Common.{◌≡◌, ◌≢◌, ℕ, zero, suc, ◌<◌, List, [], ◌∷◌, ◌++◌, length, slice_set, refl, sym, ap, ◌∙◌, subst, arith, length-append}
+use Rattle.std.proofs.Common.{◌≡◌, ◌≢◌, ℕ, zero, suc, ◌<◌, List, [], ◌∷◌, ◌++◌, map, length, slice_set, refl, sym, ap, ◌∙◌, subst}
+use Rattle.std.proofs.Common.{arith, length-append}
 use Rattle.std.proofs.lemmas.Option.{same_Some}
 use Rattle.atomic_table.specs.Seated.{TableId}
 use Rattle.atomic_table.specs.Table.{Me}
@@ -9,13 +10,17 @@ use Rattle.pp_model.specs.Lists.{AtEach}
 use Rattle.pp_rule.specs.declared.views.WalkSlot.{WalkSlot}
 use Rattle.pp_rule.specs.declared.views.SeatView.{SeatView}
 use Rattle.pp_rule.specs.declared.shape.Shape.{Ghosts}
-use Rattle.pp_rule.specs.Views.{blank, slot}
+use Rattle.pp_rule.specs.Views.{blank, naming, slot}
 use Rattle.pp_rule.specs.Lists.{times}
 use Rattle.pp_rule.specs.Opening.{dealt}
 use Rattle.pp_rule.proofs.OpeningWords.{each_replicate}
 use Rattle.pp_base.specs.declared.pool.Pass.{Pass}
 use Rattle.pp_base.specs.declared.purse.Purse.{Purse}
-use Rattle.pp_base.specs.Passes.{known, owned_numbers, IsSame}
+use Rattle.pp_rule.specs.declared.views.PassState.{PassState}
+use Rattle.pp_rule.proofs.Made.{known_after}
+use Rattle.pp_base.specs.Made.{ClearedWord}
+use Rattle.pp_base.proofs.Steady.{named_set}
+use Rattle.pp_base.specs.Passes.{known, view, named_of, owned_numbers, IsIdle, IsSame, Keeping}
 use Rattle.pp_pool.specs.Taken.{IsPrivate, Took, GaveBack}
 use Rattle.pp_pool.proofs.Taking.{private_took, private_gave}
 use Rattle.pp_pool.specs.Opened.{IsNewPass, AreNewPasses}
@@ -104,3 +109,14 @@ module _ {E A W : Type 0} (s s' : Seat Unit (SeatView E A W)) (p p' : Purse) (m 
   pub private_yet : (n : ℕ) → n ≢ m → s' ≡ s → GaveBack n p p' → IsPrivate (known s) p m → IsPrivate (known s') p' m
   private_yet n other seat gave was = subst (λ (t : Seat Unit (SeatView E A W)). IsPrivate (known t) p' m) (sym seat)
       (private_gave (known s) n p p' m other gave was)
+
+-- an idle pass is idle after it cleared its first walk word
+pub idle_cleared : {E A W : Type 0} (sentinels sides : ℕ) (z : Sizes) (forget : ℕ → W → W) (s s' : Seat Unit (SeatView E A W))
+    (n share n' share' : ℕ) (ws ws' : List ℕ) (p p' : Purse) → Keeping sentinels sides s n share ws p
+    → Keeping sentinels sides s' n' share' ws' p' → ClearedWord z forget 0 s s' → p' ≡ p → IsIdle ws p → IsIdle ws' p'
+idle_cleared {E} {A} {W} sentinels sides z forget s s' n share n' share' ws ws' p p' k k' cleared same idle = (
+  sym k'.walk_is ∙ (ap (λ (q : PassState W). map named_of q.walk) (known_after _ _ _ _ [] [] _ (view s) (view s') cleared)
+      ∙ (named_set (known s).walk 0 (naming 0) ∙ ap (λ (l : List ℕ). slice_set l 0 0) (k.walk_is ∙ idle.0))),
+  ap (λ (r : Purse). r.going) same ∙ idle.1,
+  ap (λ (r : Purse). r.taken) same ∙ idle.2,
+)

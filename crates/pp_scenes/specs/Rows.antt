@@ -1,5 +1,12 @@
 -- What a pass holds of the row as a scene goes on.
-use Rattle.std.specs.Prelude.{◌≡◌, ◌≢◌, ℕ, ◌<◌, ◌≤◌, true}
+use Rattle.std.specs.Prelude.{◌≡◌, ◌≢◌, ℕ, ◌<◌, ◌≤◌, true, List}
+use Rattle.atomic_table.specs.Seated.{TableId}
+use Rattle.pp_link.specs.declared.layout.Sizes.{Sizes}
+use Rattle.pp_model.specs.Lists.{AtEach}
+use Rattle.pp_rule.specs.declared.shape.Shape.{Ghosts}
+use Rattle.pp_base.specs.declared.pool.Pass.{Pass}
+use Rattle.pp_base.specs.Passes.{IsIdle}
+use Rattle.pp_pool.specs.Closed.{IsSeatOf}
 use Rattle.pp_rule.specs.Lists.{IsIn}
 use Rattle.pp_rule.specs.declared.views.WalkSlot.{WalkSlot}
 use Rattle.pp_rule.specs.declared.views.PassState.{PassState}
@@ -25,3 +32,7 @@ pub record Grown (s s' : WalkSlot) : Type 0 where
 -- so it is in all walk words but the word i
 abbrev pub GrownBut : {W : Type 0} → ℕ → PassState W → PassState W → Type 0
 GrownBut i q q' = (j : ℕ) → j < 5 → j ≢ i → Grown (slot q j) (slot q' j)
+
+-- These are the passes of the pool, by rising numbers, and each is idle.
+abbrev pub AreIdle : {S E A W : Type 0} {shape : Ghosts S E A W} → TableId → Sizes → List (Pass S E A W shape) → Type 0
+AreIdle table z passes = AtEach passes (λ k p. IsSeatOf table z k p.seat × IsIdle p.walk p.purse)

@@ -4,8 +4,14 @@
 #[cfg(test)]
 mod detaching;
 #[cfg(test)]
+mod filling;
+#[cfg(test)]
+mod noted;
+#[cfg(test)]
 mod peg_tests;
 pub mod pegs;
+#[cfg(test)]
+mod shelving;
 #[cfg(test)]
 mod staging;
 #[cfg(test)]

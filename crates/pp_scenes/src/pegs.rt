@@ -1,23 +1,25 @@
-//! Five pegs, each the record to which one head leads. A pass may pull out one after another, so it comes to have several
-//! chains in hand. No call takes effect: it tries the steps that every pool has.
+//! Five pegs on one line. A pass may pull out the first one again and again, so it comes to have several chains in hand, each
+//! with a frontier. No call takes effect: it tries the steps that every pool has.
 
 ghost use Rattle.std.specs.Prelude.{◌≡◌, ◌<◌};
 ghost use Rattle.pp_link.specs.Links.{target};
 ghost use Rattle.pp_base.specs.Row.{has_flag};
 ghost use Rattle.pp_base.specs.RowLaws.{row_sided, row_freezes};
 ghost use Rattle.pp_scenes.specs.Pegs.{peg_head, peg_field, ArePegs, peg_chain, MayPull};
-ghost use Rattle.pp_scenes.specs.Pegs.{peg_pairs, peg_alive, peg_count, PegTells, PegTellsPass};
+ghost use Rattle.pp_scenes.specs.Pegs.{PegGathered, peg_count, PegTells, PegTellsPass};
 ghost use Rattle.pp_scenes.specs.PegLaws.{peg_fits, peg_heads_open, peg_links_open, peg_opened, peg_alike};
-ghost use Rattle.pp_scenes.specs.PegLaws.{peg_clears, peg_invalidates, peg_chained, peg_detaches, peg_detached, peg_gathers};
+ghost use Rattle.pp_scenes.specs.PegLaws.{peg_clears, peg_invalidates, peg_reached, peg_chained, peg_detaches, peg_detached};
+ghost use Rattle.pp_scenes.specs.PegLaws.{peg_gathers, peg_own_changes};
 
+use pp_base::source::unpacked;
 use pp_link::{Field, Layout, Link};
 use pp_model::Pair;
 use pp_model::lists::enter;
 use pp_rule::Shape;
 
-/// The shape of five pegs: each of the heads 0 to 4 that there are leads to the record after it, 1 to 5, which is marked
-/// as removed and leads to nil. Their keys are 1 to 5, and their values 0. A pass that has learnt the link of a peg may
-/// detach it, and the head is nil then. The contents are the pegs that stand at the end.
+/// The shape of five pegs, the records 1 to 5: the head 0 leads to the first one, and each is marked as removed and leads to
+/// the next. Their keys are 1 to 5, and their values 0. A pass that has learnt the link of the first peg that stands may detach
+/// it, and the head leads to the next one then. The contents are the numbers of the pegs that stand at the end.
 pub struct PegShape {}
 
 impl Shape for PegShape {
@@ -55,9 +57,7 @@ impl Shape for PegShape {
 
     ghost may_detach = { λ z walk own place first new. MayPull z walk place first new };
 
-    ghost pairs = { peg_pairs };
-
-    ghost alive = { peg_alive };
+    ghost gathered = { λ z words contents live. PegGathered z words contents live };
 
     ghost live_count = { peg_count };
 
@@ -65,28 +65,33 @@ impl Shape for PegShape {
 
     ghost tells_pass = { λ z log p placed. PegTellsPass z log p placed };
 
+    ghost caller_of = { λ change. 0 };
+
     fn opening(number: u32, field: Field) -> u64 {
         match field {
             Field::Key => number as u64,
             Field::Value => 0,
-            Field::Left => Link::pack(0, true, false, false, false).word(),
-            Field::Right => 0,
+            Field::Left => {
+                let next = if number < 5 { number + 1 } else { 0 };
+                Link::pack(next, true, false, false, false).word()
+            }
+            Field::Right | Field::High => 0,
         }
     }
 
     fn head(head: u32) -> Link {
-        let number = if head < 5 { head + 1 } else { 0 };
+        let number = if head == 0 { 1 } else { 0 };
         Link::pack(number, false, false, false, false)
     }
 
     fn gather(layout: &Layout, words: &[u64], contents: &mut Vec<Pair>, live: &mut Vec<u32>) {
-        let heads = layout.sizes().heads.min(5);
-        for head in 0..heads {
-            if words[layout.head_word(head) as usize] != 0 {
-                let number = head + 1;
-                enter(contents, pair(number));
-                enter(live, number);
-            }
+        let first = unpacked(words[layout.head_word(0) as usize]).number();
+        if first == 0 {
+            return;
+        }
+        for number in first..6 {
+            enter(contents, pair(number));
+            enter(live, number);
         }
     }
 
@@ -108,11 +113,15 @@ impl Shape for PegShape {
 
     ghost invalidates = { peg_invalidates };
 
+    ghost reached = { peg_reached };
+
     ghost chained = { peg_chained };
 
     ghost detaches = { peg_detaches };
 
     ghost detached = { peg_detached };
+
+    ghost own_changes = { peg_own_changes };
 
     ghost gathers = { peg_gathers };
 }

@@ -7,13 +7,11 @@ ghost use Rattle.pp_base.specs.Passes.{IsIdle};
 ghost use Rattle.pp_pool.specs.Opened.{AreNewPasses};
 ghost use Rattle.pp_pool.specs.Closed.{IsSeatOf};
 
-use atomic_table::Seat;
 use pp_base::{Pass, Pool};
 use pp_link::Sizes;
 use pp_model::Closed;
-use pp_pool::{close, make_pool};
+use pp_pool::{Witness, close, make_pool};
 use pp_rule::Shape;
-use pp_rule::views::SeatView;
 use std::alloc::Global;
 use std::process::Abort;
 
@@ -40,7 +38,7 @@ pub(crate) fn end<S: Shape>(
     alloc: Global,
     pool: Pool<S>,
     passes: Vec<Pass<S>>,
-) -> Closed<Seat<(), SeatView<S::Entry, S::Said, S::Own>>>
+) -> Closed<Witness<S>>
     requires all { length passes.items ≡ pool.layout.passes }
     requires each { AtEach passes.items (λ k p. IsSeatOf pool.table.shared.table_id pool.layout k p.seat) }
     requires idle { AtEach passes.items (λ k p. IsIdle p.walk p.purse) }

@@ -21,7 +21,7 @@ pub(crate) const SMALL: Sizes = Sizes {
     heads: 1,
 };
 
-const SMALLEST: Sizes = Sizes {
+pub(crate) const SMALLEST: Sizes = Sizes {
     passes: 1,
     records: 8,
     heads: 1,
@@ -97,7 +97,8 @@ fn write(pool: &Pool<RowShape>, pass: &mut Pass<RowShape>, fresh: &Fresh)
     );
 }
 
-/// Takes the records that are free with the first pass, the last one first, writes one of them, and gives them back in that order.
+/// Takes the records that are free with the first pass, the last one first, writes one of them, and gives them back in that
+/// order.
 fn take_and_give_back(rt: &impl Abort, pool: &Pool<RowShape>, pass: &mut Pass<RowShape>)
     requires fits { Fits pool.now.table.shared.table_id pool.now.layout pass.old.seat }
     ensures same { IsSame pass.old.seat pass.new.seat }

@@ -7,3 +7,4 @@ pub mod Tallies
 pub mod Growth
 pub mod Readings
 pub mod Limits
+pub mod Openings

@@ -8,13 +8,17 @@ use Rattle.std.proofs.lemmas.List.{get_or-replicate, length-map, get_or-map, sam
 use Rattle.std.proofs.lemmas.Grind.{get_or-set_at}
 use Rattle.pp_model.specs.declared.Call.{Call}
 use Rattle.pp_model.specs.Lists.{upto}
+use Rattle.pp_trace.specs.declared.forms.Form.{Form}
+use Rattle.pp_trace.specs.declared.forms.Opening.{Opening}
 use Rattle.pp_trace.specs.declared.parsing.Reading.{Reading}
 use Rattle.pp_trace.specs.declared.parsing.Reading.TheVariants.{Asks}
 use Rattle.pp_trace.specs.declared.scanning.Span.{Span}
 use Rattle.pp_trace.specs.Lines.{IsLineAt, fields_of}
-use Rattle.pp_trace.specs.Grammar.{reading, readings, calls_of, first_bad, lines, bad}
+use Rattle.pp_trace.specs.Grammar.{reading, calls_of, first_bad, lines, bad}
+use Rattle.pp_trace.specs.Opening.{readings_in, IsOpening}
 use Rattle.pp_trace.specs.TraceLists.{IsTrace, with_call}
 use Rattle.pp_trace.proofs.Limits.{asker-below, keys-fit, lists-short}
+use Rattle.pp_trace.proofs.Openings.{calls_of-nothings, first_bad-nothings}
 
 -- the lists hold the calls of a text but for those of the lines that are left
 pub record HasReadTo (text : List ℕ) (callers : ℕ) (left : List Reading) (lists : List (List Call)) : Type 0 where
@@ -22,9 +26,10 @@ pub record HasReadTo (text : List ℕ) (callers : ℕ) (left : List Reading) (li
   pub each : (c : ℕ) → c < callers → lines text callers c ≡ get_or lists c [] ++ calls_of c left
 
 -- the next line of those that are left
-pub readings-next : (text : List ℕ) (callers from : ℕ) (line : Span) → IsLineAt text from line
-    → readings (drop from text) callers ≡ reading callers (fields_of (between line.start line.end text)) ∷ readings (drop line.next text) callers
-readings-next text callers from line is = ap (map (λ l. reading callers (fields_of l))) is.lines
+pub readings-next : (text : List ℕ) (form : Form) (callers from : ℕ) (line : Span) → IsLineAt text from line
+    → readings_in form (drop from text) callers
+    ≡ reading form callers (fields_of (between line.start line.end text)) ∷ readings_in form (drop line.next text) callers
+readings-next text form callers from line is = ap (λ ls. map (reading form callers) (map fields_of ls)) is.lines
 
 nothing-at : (n c : ℕ) → get_or {A = List Call} (replicate n []) c [] ≡ []
 nothing-at n c =
@@ -33,11 +38,18 @@ nothing-at n c =
     (λ past. get_or_past (replicate n []) c [] (omega (arith, length-replicate {A = List Call} n [])))
     (cases_lt c n)
 
-pub read-none : (text : List ℕ) (callers : ℕ) → HasReadTo text callers (readings text callers) (replicate callers [])
-read-none text callers = record {
+-- behind the opening no call was read so far, and no line is bad
+pub read-none : (text : List ℕ) (callers : ℕ) (opening : Opening) → IsOpening text opening
+    → HasReadTo text callers (readings_in opening.form (drop opening.from text) callers) (replicate callers [])
+read-none text callers opening is = record {
   size = length-replicate callers [];
-  each = λ c within. ap (λ calls. calls ++ lines text callers c) (sym (nothing-at callers c));
+  each = λ c within. ap (calls_of c) (is.says callers) ∙ calls_of-nothings opening.lines c _
+      ∙ ap (λ calls. calls ++ calls_of c (readings_in opening.form (drop opening.from text) callers)) (sym (nothing-at callers c));
 }
+
+pub good-none : (text : List ℕ) (callers : ℕ) (opening : Opening) → IsOpening text opening
+    → bad text callers ≡ first_bad (opening.lines + 1) (readings_in opening.form (drop opening.from text) callers)
+good-none text callers opening is = ap (first_bad 1) (is.says callers) ∙ first_bad-nothings opening.lines 1 _
 
 calls_of-same : (c a : ℕ) (call : Call) (left : List Reading) → a ≡ c → calls_of c (Asks a call ∷ left) ≡ call ∷ calls_of c left
 calls_of-same c a call left e = let same = eq-eqb a c e in rw same refl
@@ -89,25 +101,26 @@ read-all text callers lists read =
     get_or_default lists k d [] within ∙ sym mine ∙ sym at ∙ sym (get_or-map (lines text callers) all k 0 d (omega arith)))
 
 -- a line that asks a call
-pub past-call : (text : List ℕ) (callers from n : ℕ) (line : Span) (lists : List (List Call)) (a : ℕ) (call : Call) → IsLineAt text from line
-    → Asks a call ≡ reading callers (fields_of (between line.start line.end text))
-    → bad text callers ≡ first_bad n (readings (drop from text) callers)
-    → HasReadTo text callers (readings (drop from text) callers) lists
-    → (bad text callers ≡ first_bad (n + 1) (readings (drop line.next text) callers))
-    × HasReadTo text callers (readings (drop line.next text) callers) (with_call lists a call)
-past-call text callers from n line lists a call is says good read =
-    let left = readings (drop line.next text) callers in
-    let next = readings-next text callers from line is ∙ ap (λ r. r ∷ left) (sym says) in
+pub past-call : (text : List ℕ) (form : Form) (callers from n : ℕ) (line : Span) (lists : List (List Call)) (a : ℕ) (call : Call)
+    → IsLineAt text from line
+    → Asks a call ≡ reading form callers (fields_of (between line.start line.end text))
+    → bad text callers ≡ first_bad n (readings_in form (drop from text) callers)
+    → HasReadTo text callers (readings_in form (drop from text) callers) lists
+    → (bad text callers ≡ first_bad (n + 1) (readings_in form (drop line.next text) callers))
+    × HasReadTo text callers (readings_in form (drop line.next text) callers) (with_call lists a call)
+past-call text form callers from n line lists a call is says good read =
+    let left = readings_in form (drop line.next text) callers in
+    let next = readings-next text form callers from line is ∙ ap (λ r. r ∷ left) (sym says) in
     let before : HasReadTo text callers (Asks a call ∷ left) lists = rw next at read in
-    let below : a < callers = asker-below callers (fields_of (between line.start line.end text)) a call says in
+    let below : a < callers = asker-below form callers (fields_of (between line.start line.end text)) a call says in
     (good ∙ ap (first_bad n) next, read-call text callers left lists a call below before)
 
 -- at the end of the text the lists are those that it says
-pub trace-read : (text : List ℕ) (callers from n : ℕ) (lists : List (List Call)) → from ≡ length text → length text ≤ 16777216
-    → bad text callers ≡ first_bad n (readings (drop from text) callers) → HasReadTo text callers (readings (drop from text) callers) lists
-    → IsTrace text callers lists
-trace-read text callers from n lists end short good read =
-    let none : readings (drop from text) callers ≡ [] = ap (λ t. readings t callers) (drop_all from text (omega arith)) in
+pub trace-read : (text : List ℕ) (form : Form) (callers from n : ℕ) (lists : List (List Call)) → from ≡ length text
+    → length text ≤ 16777216 → bad text callers ≡ first_bad n (readings_in form (drop from text) callers)
+    → HasReadTo text callers (readings_in form (drop from text) callers) lists → IsTrace text callers lists
+trace-read text form callers from n lists end short good read =
+    let none : readings_in form (drop from text) callers ≡ [] = ap (λ t. readings_in form t callers) (drop_all from text (omega arith)) in
     let all : HasReadTo text callers [] lists = rw none at read in
     let are = read-all text callers lists all in
     record {

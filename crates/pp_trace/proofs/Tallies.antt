@@ -1,45 +1,12 @@
 -- Counts of answers that grow by one more answer or one more list.
-use Rattle.std.proofs.Common.{◌≡◌, ℕ, ◌+◌, ◌^◌, ◌<◌, ◌≤◌, Bool, cond, List, [], ◌∷◌, ◌++◌, length, map, take, get_or, refl, sym, ap, ◌∙◌, add-zero, arith}
+use Rattle.std.proofs.Common.{◌≡◌, ℕ, ◌+◌, ◌^◌, ◌<◌, ◌≤◌, Bool, List, [], ◌∷◌, ◌++◌, length, map, take, get_or, refl, sym, ap, ◌∙◌, arith}
 use Rattle.std.specs.Prelude.{count_by, sum_by}
 use Rattle.std.proofs.lemmas.List.{take_more, map-append}
-use Rattle.std.proofs.lemmas.List.Sums.{count_by-le-length, sum_by-append, sum_by-cons, sum_by_push, sum_by_more, sum_by-take-le}
+use Rattle.std.proofs.lemmas.List.Sums.{count_by-le-length, sum_by-cons, sum_by_push, sum_by_more, sum_by-take-le}
 use Rattle.pp_model.specs.declared.Answer.{Answer}
-use Rattle.pp_model.specs.declared.Pair.{Pair}
 use Rattle.pp_trace.specs.declared.Counts.{Counts}
-use Rattle.pp_trace.specs.Text.{count_all, counts_of, counts_text, summary}
+use Rattle.pp_trace.specs.Text.{count_all, counts_of}
 use Rattle.pp_trace.specs.Counting.{HasRoom, CountsAlso}
-
--- where the counts are those of the answers, the nine lines are the summary
-pub counts_text-summary : (lines : ℕ) (answers : List (List Answer)) (contents : List Pair) (counts : Counts) (pairs : ℕ)
-    → counts ≡ counts_of answers → pairs ≡ length contents → counts_text lines counts pairs ≡ summary lines answers contents
-counts_text-summary lines answers contents counts pairs same many =
-    ap (λ c. counts_text lines c pairs) same ∙ ap (counts_text lines (counts_of answers)) many
-
-pub CountsAlso-none : (c : Counts) → CountsAlso c c []
-CountsAlso-none c = record {
-  added = sym (add-zero c.added);
-  held = sym (add-zero c.held);
-  value = sym (add-zero c.value);
-  absent = sym (add-zero c.absent);
-  took = sym (add-zero c.took);
-  full = sym (add-zero c.full);
-  lost = sym (add-zero c.lost);
-}
-
--- some answers, and then others
-pub CountsAlso-then : {a b c : Counts} {xs ys : List Answer} → CountsAlso a b xs → CountsAlso b c ys → CountsAlso a c (xs ++ ys)
-CountsAlso-then {a} {b} {c} {xs} {ys} p q = record {
-  added = one _ a.added b.added c.added p.added q.added;
-  held = one _ a.held b.held c.held p.held q.held;
-  value = one _ a.value b.value c.value p.value q.value;
-  absent = one _ a.absent b.absent c.absent p.absent q.absent;
-  took = one _ a.took b.took c.took p.took q.took;
-  full = one _ a.full b.full c.full p.full q.full;
-  lost = one _ a.lost b.lost c.lost p.lost q.lost;
-}
-  where
-    one : (test : Answer → Bool) (l m n : ℕ) → m ≡ l + count_by test xs → n ≡ m + count_by test ys → n ≡ l + count_by test (xs ++ ys)
-    one test l m n first second = omega (arith, first, second, sum_by-append (λ x. cond (test x) 1 0) xs ys)
 
 -- room that is left after some answers
 pub HasRoom-after : {a b : Counts} {xs : List Answer} (room more : ℕ) → HasRoom a room → CountsAlso a b xs → length xs + more ≤ room

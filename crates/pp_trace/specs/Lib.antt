@@ -1,5 +1,6 @@
 pub mod Lines
 pub mod Grammar
+pub mod Opening
 pub mod Text
 pub mod TraceLists
 pub mod Printing

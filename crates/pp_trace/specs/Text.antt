@@ -3,7 +3,7 @@ use Rattle.std.specs.Prelude.{ℕ, ◌+◌, Bool, true, false, List, [], ◌∷�
 use Rattle.std.specs.Fmt.{decimal}
 use Rattle.std.specs.List.{flat_map}
 use Rattle.pp_model.specs.declared.Reply.{Reply}
-use Rattle.pp_model.specs.declared.Reply.TheVariants.{Value, Absent, Added, Held, Took}
+use Rattle.pp_model.specs.declared.Reply.TheVariants.{Value, Absent, Added, Held, Took, Other}
 use Rattle.pp_model.specs.declared.Answer.{Answer}
 use Rattle.pp_model.specs.declared.Answer.TheVariants.{Said, Full}
 use Rattle.pp_model.specs.declared.Answer.TheVariants as answer
@@ -19,6 +19,7 @@ reply_text Absent = codes "absent"
 reply_text Added = codes "added"
 reply_text (Held v) = codes "held " ++ decimal v
 reply_text (Took v) = codes "took " ++ decimal v
+reply_text (Other v) = codes "other " ++ decimal v
 
 -- how a call ended
 abbrev pub answer_text : Answer → List ℕ

@@ -48,6 +48,7 @@ impl Counts {
             Answer::Said(Reply::Added) => self.added += 1,
             Answer::Said(Reply::Held(_)) => self.held += 1,
             Answer::Said(Reply::Took(_)) => self.took += 1,
+            Answer::Said(Reply::Other(_)) => {}
             Answer::Full => self.full += 1,
             Answer::Lost { .. } => self.lost += 1,
         }

@@ -2,6 +2,7 @@
 #![tactic(auto)]
 
 mod counting;
+mod forms;
 mod lists;
 mod made;
 mod parsing;
@@ -19,13 +20,13 @@ pub use scanning::{Number, Span, next_field, next_line, read_number};
 pub enum Why {
     /// The first field is no number, or not below the number of callers.
     Caller,
-    /// There is no second field, or it is no call's word.
+    /// There is no second field, or it is no call's word in the trace's form.
     Word,
     /// There are more or fewer fields than the call has.
     Fields,
     /// The key is no number, or above 18446744073709551612.
     Key,
-    /// The value is no number, or above 18446744073709551615.
+    /// The value is no number, or above 18446744073709551615, or in the second form above 2^128 - 1.
     Value,
 }
 

@@ -20,7 +20,10 @@ fn call_of(kind: u64, key: u64, value: u64) -> Call
     ensures { result ≡ made_call kind key value }
 {
     match kind {
-        0 | 1 => Call::Insert { key, value },
+        0 | 1 => Call::Insert {
+            key,
+            value: u128::from(value),
+        },
         2 => Call::Remove { key },
         _ => Call::Get { key },
     }

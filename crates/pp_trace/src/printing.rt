@@ -1,8 +1,8 @@
 //! The text of a run, printed through one buffer.
 
 ghost use Rattle.std.specs.Prelude.{◌≡◌, ℕ, ◌<◌, ◌≤◌, List, [], ◌++◌, length, false, IfOk, OnOk, OnErr, is_err};
-ghost use Rattle.pp_outside.specs.Outside.{HasCause};
-ghost use Rattle.pp_trace.specs.Printing.{Waiting, Printing, Waits, Puts};
+ghost use Rattle.pp_outside.specs.Outside.{HasCause, WritesTillFault, OffersAll};
+ghost use Rattle.pp_trace.specs.Printing.{Waiting, Printing, Waits, Puts, OffersFull, WritesOnce};
 ghost use Rattle.pp_trace.specs.Text.{answer_line, contents_text, counts_text};
 
 use crate::{Counts, text};
@@ -68,7 +68,7 @@ impl Printer {
         answer: &Answer,
     ) -> Result<(), Failed>
         requires whole { self.old.failed ≡ false }
-        ensures { Puts K.written K.faults sink.old sink.new self.old self.new
+        ensures { Puts K.written K.faults K.Writes sink.old sink.new self.old self.new
             (answer_line caller number answer.now) result }
     {
         let line = text::of_answer(caller, number, answer);
@@ -82,7 +82,7 @@ impl Printer {
     /// `Failed` comes with the first write that fails; what was written and what waits is a front of the text.
     pub fn contents<K: Sink>(&mut self, sink: &mut K, pairs: &[Pair]) -> Result<(), Failed>
         requires whole { self.old.failed ≡ false }
-        ensures { Puts K.written K.faults sink.old sink.new self.old self.new
+        ensures { Puts K.written K.faults K.Writes sink.old sink.new self.old self.new
             (contents_text pairs.now) result }
     {
         let line = text::of_length(pairs.len());
@@ -108,7 +108,7 @@ impl Printer {
         pairs: u32,
     ) -> Result<(), Failed>
         requires whole { self.old.failed ≡ false }
-        ensures { Puts K.written K.faults sink.old sink.new self.old self.new
+        ensures { Puts K.written K.faults K.Writes sink.old sink.new self.old self.new
             (counts_text lines counts.now pairs) result }
     {
         let text = text::of_counts(lines, counts, pairs);
@@ -126,6 +126,7 @@ impl Printer {
             self.old.waits self.new.waits [] result }
         ensures empty { OnOk result (self.new.waits ≡ []) }
         ensures cause { HasCause (K.faults sink.old) (K.faults sink.new) result }
+        ensures writes { WritesTillFault K.Writes OffersAll sink.old self.old.waits sink.new self.new.waits result }
         ensures failed { self.new.failed ≡ is_err result }
     {
         while !self.buffer.is_empty() {
@@ -137,7 +138,7 @@ impl Printer {
     // Puts the text behind what waits, and makes room by a write wherever the buffer is full.
     fn put<K: Sink>(&mut self, sink: &mut K, text: &[u8]) -> Result<(), Failed>
         requires whole { self.old.failed ≡ false }
-        ensures { Puts K.written K.faults sink.old sink.new self.old self.new text.now result }
+        ensures { Puts K.written K.faults K.Writes sink.old sink.new self.old self.new text.now result }
     {
         let mut rest = text;
         while !rest.is_empty() {
@@ -156,7 +157,7 @@ impl Printer {
         ensures room { OnOk result (length self.new.waits < 65536) }
         ensures roomy { length self.old.waits < 65536 → Waits sink.old sink.new
             self.old.waits self.new.waits [] result }
-        ensures full { OnErr result (length self.new.waits ≡ 65536) }
+        ensures writes { WritesTillFault K.Writes OffersFull sink.old self.old.waits sink.new self.new.waits result }
         ensures failed { self.new.failed ≡ is_err result }
     {
         if self.buffer.len() < BUFFER {
@@ -188,8 +189,8 @@ impl Printer {
         ensures printed { Printing (K.written sink.old) (K.written sink.new)
             self.old.waits self.new.waits [] result }
         ensures cause { HasCause (K.faults sink.old) (K.faults sink.new) result }
+        ensures once { WritesOnce K.Writes sink.old self.old.waits sink.new self.new.waits result }
         ensures fewer { OnOk result (length self.new.waits < length self.old.waits) }
-        ensures kept { OnErr result (self.new.waits ≡ self.old.waits) }
         ensures failed { self.new.failed ≡ is_err result }
     {
         match sink.write(&self.buffer) {

@@ -24,25 +24,37 @@ fn push_number<const N: usize>(text: &mut ArrayString<N>, number: u64)
     text.push_str(Buffer::new().format(number));
 }
 
+fn push_value(text: &mut ArrayString<LINE>, value: u128)
+    requires { array_string_len text.old + 39 ≤ 96 }
+    ensures bytes { text.new.bytes ≡ text.old.bytes ++ decimal value }
+    ensures len { array_string_len text.new ≤ array_string_len text.old + 39 }
+{
+    text.push_str(Buffer::new().format(value));
+}
+
 fn push_answer(line: &mut ArrayString<LINE>, answer: &Answer)
-    requires { array_string_len line.old + 26 ≤ 96 }
+    requires { array_string_len line.old + 45 ≤ 96 }
     ensures bytes { line.new.bytes ≡ line.old.bytes ++ answer_text answer.now }
-    ensures len { array_string_len line.new ≤ array_string_len line.old + 26 }
+    ensures len { array_string_len line.new ≤ array_string_len line.old + 45 }
 {
     match answer {
         Answer::Said(Reply::Value(value)) => {
             line.push_str("value ");
-            push_number(line, *value);
+            push_value(line, *value);
         }
         Answer::Said(Reply::Absent) => line.push_str("absent"),
         Answer::Said(Reply::Added) => line.push_str("added"),
         Answer::Said(Reply::Held(value)) => {
             line.push_str("held ");
-            push_number(line, *value);
+            push_value(line, *value);
         }
         Answer::Said(Reply::Took(value)) => {
             line.push_str("took ");
-            push_number(line, *value);
+            push_value(line, *value);
+        }
+        Answer::Said(Reply::Other(value)) => {
+            line.push_str("other ");
+            push_value(line, *value);
         }
         Answer::Full => line.push_str("full"),
         Answer::Lost { .. } => line.push_str("lost"),
@@ -70,7 +82,7 @@ pub fn of_pair(pair: &Pair) -> ArrayString<LINE>
     let mut line = ArrayString::new();
     push_number(&mut line, pair.key);
     line.push_str(" ");
-    push_number(&mut line, pair.value);
+    push_value(&mut line, pair.value);
     line.push_str("\n");
     line
 }

@@ -1,5 +1,7 @@
 -- The steps of a try to detach a chain.
-use Rattle.std.proofs.Common.{◌≡◌, ◌≢◌, ℕ, zero, suc, ◌-◌, ◌<◌, List, [], ◌∷◌, map, length, refl, sym, ap, ◌∙◌, subst, arith}
+use Rattle.std.proofs.Common.{◌≡◌, ◌≢◌, ℕ, zero, suc, ◌-◌, ◌<◌, Bool, List, [], ◌∷◌, map, length, refl, sym, ap, ◌∙◌, subst}
+use Rattle.std.proofs.Common.{arith}
+use Rattle.std.proofs.Math.Bool.{false≢true}
 use mathlib.Core.Option.{some, some-injective}
 use lib.ListN.{get_elem?}
 use Rattle.atomic_table.specs.declared.shared.Seat.{Seat}
@@ -19,10 +21,11 @@ use Rattle.pp_base.specs.declared.source.Side.{Side}
 use Rattle.pp_base.specs.declared.source.Place.{Place}
 use Rattle.pp_base.specs.declared.source.Place.TheVariants.{Head, Walk}
 use Rattle.pp_base.specs.Passes.{known, view, in_hand_of, IsAtRest}
-use Rattle.pp_base.specs.Sources.{source_place}
+use Rattle.pp_base.specs.Sources.{source_place, learning_at}
 use Rattle.pp_base.specs.Chains.{GuardedBy, DetachedAt, Unguarded}
 use Rattle.pp_base.specs.Named.{guards, unguards, detaches, misses, MadeOne}
 use Rattle.pp_base.proofs.Named.{plain_one}
+use Rattle.pp_base.proofs.Learning.{SameButWalk, learns_walk, frontier_learning}
 use Rattle.pp_unlink.specs.Invalidation.{Flushed}
 use Rattle.pp_unlink.specs.Unlinking.{GuardsNone, SameHeld, MayFlush, Exchanges, Misses}
 use Rattle.pp_unlink.proofs.Settling.{rest_missed}
@@ -66,7 +69,8 @@ module _ {E A W : Type 0} where
         own = rest.own ∙ ap (λ q. q.own) one;
       }
 
-  module _ (sides : ℕ) (z : Sizes) (chain : List WalkSlot → W → ℕ → ℕ → ℕ → Chain) (at : Place) (side : Side) (first new guard : ℕ)
+  module _ (sides : ℕ) (z : Sizes) (frozen : ℕ → Bool) (chain : List WalkSlot → W → ℕ → ℕ → ℕ → Chain) (at : Place)
+      (side : Side) (first new guard : ℕ)
       (s s1 s2 s3 : Seat Unit (SeatView E A W)) (flushed : MayFlush sides z (view s) (view s1)) (held : SameHeld (known s) (known s1))
       (low : guard < 4) (unused : IsUnused guard (known s1)) (guarded : GuardedBy z guard (target new) s1 s2) where
     abbrev place : ℕ
@@ -86,17 +90,17 @@ module _ {E A W : Type 0} where
     abbrev taken : Chain
     taken = chain (known s).walk (known s).own guard first new
 
-    taken_is : chain (known s2).walk (known s2).own guard first new ≡ taken
+    pub taken_is : chain (known s2).walk (known s2).own guard first new ≡ taken
     taken_is = ap (λ (walk : List WalkSlot). chain walk (known s2).own guard first new) (ap (λ q. q.walk) guarded_known ∙ held.walk)
         ∙ ap (λ (own : W). chain (known s).walk own guard first new) (ap (λ q. q.own) guarded_known ∙ held.own)
 
-    pub exchanged_known : (found : ℕ) → DetachedAt z chain at side guard first new found s2 s3 → found ≡ first
+    pub exchanged_known : (found : ℕ) → DetachedAt z frozen chain at side guard first new found s2 s3 → found ≡ first
         → known s3 ≡ detaching taken (with_frontier guard (target new) (known s1))
     exchanged_known found detached hit = known_after _ _ _ _ _ _ _ (view s2) (view s3) (detached.same hit)
         ∙ (ap (λ (c : Chain). detaching c (known s2)) taken_is ∙ ap (λ (q : PassState W). detaching taken q) guarded_known)
 
-    pub exchanges : (found : ℕ) → DetachedAt z chain at side guard first new found s2 s3 → found ≡ first
-        → Exchanges sides z chain place first new (view s) (view s3)
+    pub exchanges : (found : ℕ) → DetachedAt z frozen chain at side guard first new found s2 s3 → found ≡ first
+        → Exchanges sides z frozen chain at side first new (view s) (view s3)
     exchanges found detached hit = let made = detached.same hit in record {
       between = view s1;
       flushed = flushed;
@@ -116,7 +120,7 @@ module _ {E A W : Type 0} where
                     left = new;
                     number = refl;
                     owned = λ _. refl;
-                    leaves = λ no. absurd (no refl);
+                    leaves = λ bad. absurd (false≢true (sym bad));
                     made = made;
                   }),
               refl,
@@ -127,18 +131,30 @@ module _ {E A W : Type 0} where
       known = exchanged_known found detached hit;
     }
 
-    pub missed_known : (found : ℕ) (p : Purse) (s4 : Seat Unit (SeatView E A W)) → DetachedAt z chain at side guard first new found s2 s3
-        → found ≢ first → Unguarded z guard s3 s4 → IsAtRest (known s1) p → known s4 ≡ known s1
-    missed_known found p s4 detached other cleared rest = known_after _ _ _ _ _ _ _ (view s3) (view s4) cleared
-        ∙ (ap (λ (q : PassState W). with_frontier guard 0 q)
-        (known_after _ _ _ _ _ _ _ (view s2) (view s3) (detached.other other) ∙ guarded_known)
-        ∙ rest_missed (known s1) p guard (target new) low unused rest)
+    -- what the pass knows after the exchange that found another word
+    missed_at : (found : ℕ) → DetachedAt z frozen chain at side guard first new found s2 s3 → found ≢ first
+        → known s3 ≡ learning_at frozen at side found (known s2)
+    missed_at found detached other = known_after _ _ _ _ _ _ _ (view s2) (view s3) (detached.other other)
 
-    pub misses_it : (found : ℕ) (p : Purse) (s4 : Seat Unit (SeatView E A W)) → DetachedAt z chain at side guard first new found s2 s3
-        → found ≢ first → Unguarded z guard s3 s4 → IsAtRest (known s1) p → Misses sides z chain place first new (view s) (view s4) found
+    pub missed_known : (found : ℕ) (p : Purse) (s4 : Seat Unit (SeatView E A W))
+        → DetachedAt z frozen chain at side guard first new found s2 s3
+        → found ≢ first → Unguarded z guard s3 s4 → IsAtRest (known s1) p → known s4 ≡ learning_at frozen at side found (known s1)
+    missed_known found p s4 detached other cleared rest = known_after _ _ _ _ _ _ _ (view s3) (view s4) cleared
+        ∙ (ap (λ (q : PassState W). with_frontier guard 0 q) (missed_at found detached other
+        ∙ ap (λ (q : PassState W). learning_at frozen at side found q) guarded_known)
+        ∙ (frontier_learning frozen at side found guard 0 (with_frontier guard (target new) (known s1))
+        ∙ ap (λ (q : PassState W). learning_at frozen at side found q)
+        (rest_missed (known s1) p guard (target new) low unused rest)))
+
+    pub misses_it : (found : ℕ) (p : Purse) (s4 : Seat Unit (SeatView E A W))
+        → DetachedAt z frozen chain at side guard first new found s2 s3
+        → found ≢ first → Unguarded z guard s3 s4 → IsAtRest (known s1) p
+        → Misses sides z frozen chain at side first new (view s) (view s4) found
     misses_it found p s4 detached other cleared rest = let made = detached.other other in
-        let same : known s3 ≡ known s2 = known_after _ _ _ _ _ _ _ (view s2) (view s3) made in
-        let number : (known s3).number ≡ (known s).number = ap (λ q. q.number) (same ∙ guarded_known) ∙ held.number in record {
+        let later : PassState W = learning_at frozen at side found (known s2) in
+        let learns : SameButWalk (known s2) later = learns_walk frozen at side found (known s2) in
+        let number : (known s3).number ≡ (known s).number = ap (λ q. q.number) (missed_at found detached other)
+        ∙ (learns.number ∙ (ap (λ q. q.number) guarded_known ∙ held.number)) in record {
           between = view s1;
           flushed = flushed;
           guard = guard;
@@ -153,7 +169,9 @@ module _ {E A W : Type 0} where
                 view s3,
                 (
                   subst (λ (k : ℕ). MadeOne (misses k found) (view s2) (view s3)) place_is
-                      (plain_one (misses (source_place z (known s2) at side) found) (known s2) (view s2) (view s3) refl refl made),
+                      (plain_one (misses (source_place z (known s2) at side) found) later (view s2)
+                      (view s3) learns.number learns.owned
+                      made),
                   (
                     view s4,
                     (

@@ -6,6 +6,7 @@ use Rattle.std.proofs.Math.Seq.{take-suc}
 use Rattle.std.proofs.Math.ListN.{get_or-append}
 use Rattle.std.proofs.lemmas.List.{get_or-append-add}
 use Rattle.std.proofs.lemmas.Grind.{get_or_default_zero}
+use Rattle.std.proofs.Math.Bool.{false≢true}
 use Rattle.std.proofs.Math.Decide.{ℕ_discrete}
 use mathlib.Core.Logic.{dite}
 use mathlib.Core.Option.{some, some-injective}
@@ -205,7 +206,7 @@ module _ {E A W : Type 0} where
         left = bit_or found 4;
         number = refl;
         owned = λ _. refl;
-        leaves = λ _ no. absurd (no refl);
+        leaves = λ bad. absurd (false≢true (sym bad));
         made = inv.made;
       } in record {
         words = looks.words ++ found ∷ [];

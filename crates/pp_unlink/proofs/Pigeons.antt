@@ -10,7 +10,7 @@ use mathlib.Core.Logic.{dite}
 use Rattle.pp_rule.specs.Lists.{IsIn, times}
 use Rattle.pp_rule.proofs.Put.{in_nil, in_first, in_later, in_cases}
 use Rattle.pp_base.specs.declared.purse.InHand.{InHand}
-use Rattle.pp_base.proofs.Numbered.{times_length}
+use Rattle.pp_rule.proofs.Times.{times_length}
 use Rattle.pp_unlink.specs.Unlinking.{GuardsNone}
 
 -- whether the word j guards one of these chains

@@ -13,6 +13,7 @@ use Rattle.pp_rule.proofs.Put.{in_nil, in_cases, in_last}
 use Rattle.pp_base.specs.declared.purse.Purse.{Purse}
 use Rattle.pp_base.specs.Passes.{IsAtRest}
 use Rattle.pp_base.specs.Chains.{no_chain, chain_at}
+use Rattle.pp_base.proofs.Learning.{SameButWalk}
 use Rattle.pp_unlink.specs.Invalidation.{Invalidated, Flushed}
 use Rattle.pp_unlink.proofs.Looking.{chain_set}
 
@@ -49,10 +50,11 @@ module _ {W : Type 0} where
         (λ ne. word_else q.frontier (chain_at q 0).guard j 0 ne ∙ r.frontier j low (unused_before q j ne unused));
   }
 
-  -- a chain was detached under a frontier word
-  pub rest_detached : (q q' : PassState W) (p p' : Purse) (c : Chain) (guard n : ℕ) → q' ≡ detaching c (with_frontier guard n q)
-      → c.guard ≡ guard → p'.spent ≡ 0 → IsAtRest q p → IsAtRest q' p'
-  rest_detached q q' p p' c guard n is guards none r = subst (λ (x : PassState W). IsAtRest x p') (sym is) record {
+  -- a chain was detached under a frontier word, whatever the shape's part is then
+  pub rest_detached : (q q' : PassState W) (p p' : Purse) (c : Chain) (guard n : ℕ) (own : W)
+      → q' ≡ record (detaching c (with_frontier guard n q)) { own = own } → c.guard ≡ guard → p'.spent ≡ 0
+      → IsAtRest q p → IsAtRest q' p'
+  rest_detached q q' p p' c guard n own is guards none r = subst (λ (x : PassState W). IsAtRest x p') (sym is) record {
     scan = r.scan;
     spent = none;
     frontier = λ j low unused. dite (ℕ_discrete j guard)
@@ -110,10 +112,12 @@ module _ {E A W : Type 0} where
   flushed_more sides z zero u v w is made = (w, (subst (λ (x : SeatView E A W). Invalidated sides z x w) is made, refl))
   flushed_more sides z (suc n) u v w flushed made = (flushed.0, (flushed.1.0, flushed_more sides z n flushed.0 v w flushed.1.1 made))
 
--- the pass knows what it knew, and has as many numbers set aside
-pub rest_same : {W : Type 0} (q q' : PassState W) (p p' : Purse) → q' ≡ q → p'.spent ≡ p.spent → IsAtRest q p → IsAtRest q' p'
-rest_same q q' p p' is none r = subst (λ x. IsAtRest x p') (sym is) record {
-  scan = r.scan;
+-- the pass knows what it knew but for its walk words, and has as many numbers set aside
+pub rest_learnt : {W : Type 0} (q q' : PassState W) (p p' : Purse) → SameButWalk q q' → p'.spent ≡ p.spent
+    → IsAtRest q p → IsAtRest q' p'
+rest_learnt q q' p p' same none r = record {
+  scan = ap (λ x. x.read) same.scan ∙ r.scan;
   spent = none ∙ r.spent;
-  frontier = r.frontier;
+  frontier = λ j low unused. ap (λ (l : List ℕ). get_or l j 0) same.frontier
+      ∙ r.frontier j low (λ c i. unused c (subst (λ (l : List Chain). IsIn c l) (sym same.chains) i));
 }

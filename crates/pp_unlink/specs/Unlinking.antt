@@ -1,5 +1,5 @@
 -- What a try to detach a chain makes of the view of its pass.
-use Rattle.std.specs.Prelude.{◌≡◌, ◌≢◌, ℕ, ◌<◌, List, [], ◌∷◌, length}
+use Rattle.std.specs.Prelude.{◌≡◌, ◌≢◌, ℕ, ◌<◌, Bool, List, [], ◌∷◌, length}
 use Rattle.pp_link.specs.declared.layout.Sizes.{Sizes}
 use Rattle.pp_link.specs.Links.{word_of, target}
 use Rattle.pp_link.specs.Places.{frontier_place}
@@ -10,6 +10,9 @@ use Rattle.pp_rule.specs.declared.views.PassState.{PassState}
 use Rattle.pp_rule.specs.declared.views.SeatView.{SeatView}
 use Rattle.pp_rule.specs.Steps.{IsUnused, with_frontier, detaching}
 use Rattle.pp_base.specs.declared.purse.InHand.{InHand}
+use Rattle.pp_base.specs.declared.source.Side.{Side}
+use Rattle.pp_base.specs.declared.source.Place.{Place}
+use Rattle.pp_base.specs.Sources.{source_place, learning_at}
 use Rattle.pp_base.specs.Named.{guards, unguards, detaches, misses, Made}
 use Rattle.pp_unlink.specs.declared.unlinking.Unlink.{Unlink}
 use Rattle.pp_unlink.specs.declared.unlinking.Unlink.TheVariants.{Detached, Changed}
@@ -31,7 +34,12 @@ module _ {E A W : Type 0} where
     pub full : length before.known.chains ≡ 4 → Flushed sides z 4 before after
     pub few : length before.known.chains < 4 → after ≡ before
 
-  module _ (sides : ℕ) (z : Sizes) (chain : List WalkSlot → W → ℕ → ℕ → ℕ → Chain) (place first new : ℕ) (before after : SeatView E A W) where
+  module _ (sides : ℕ) (z : Sizes) (frozen : ℕ → Bool) (chain : List WalkSlot → W → ℕ → ℕ → ℕ → Chain) (at : Place) (side : Side)
+      (first new : ℕ) (before after : SeatView E A W) where
+    -- where the link stands
+    abbrev pub link_at : ℕ
+    link_at = source_place z before.known at side
+
     -- The link was exchanged, and what the shape says is detached is the newest chain in hand.
     pub record Exchanges : Type 0 where
       pub between : SeatView E A W
@@ -39,11 +47,13 @@ module _ {E A W : Type 0} where
       pub guard : ℕ
       pub guard_low : guard < 4
       pub unused : IsUnused guard between.known
-      pub steps : Made (guards (frontier_place z before.known.number guard) (target new) ∷ detaches place first ∷ []) between after
+      pub steps : Made (guards (frontier_place z before.known.number guard)
+          (target new) ∷ detaches link_at first ∷ []) between after
       pub known : after.known ≡ detaching (chain before.known.walk before.known.own guard first new)
           (with_frontier guard (target new) between.known)
 
-    -- The link was another word, and but for such a flush nothing has changed.
+    -- The link was another word, which is learnt where it is frozen and a held record's. But for such a flush nothing else has
+    -- changed.
     pub record Misses (found : ℕ) : Type 0 where
       pub between : SeatView E A W
       pub flushed : MayFlush sides z before between
@@ -51,9 +61,9 @@ module _ {E A W : Type 0} where
       pub guard_low : guard < 4
       pub unused : IsUnused guard between.known
       pub other : found ≢ first
-      pub steps : Made (guards (frontier_place z before.known.number guard) (target new) ∷ misses place found
+      pub steps : Made (guards (frontier_place z before.known.number guard) (target new) ∷ misses link_at found
           ∷ unguards (frontier_place z before.known.number guard) ∷ []) between after
-      pub known : after.known ≡ between.known
+      pub known : after.known ≡ learning_at frozen at side found between.known
 
     -- each answer
     abbrev pub Unlinks : Unlink → Type 0

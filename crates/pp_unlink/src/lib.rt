@@ -5,4 +5,4 @@ pub mod invalidating;
 pub mod unlinking;
 
 pub use invalidating::{flush, invalidate};
-pub use unlinking::{Unlink, try_unlink};
+pub use unlinking::{Unlink, flush_full, free_word, try_unlink};

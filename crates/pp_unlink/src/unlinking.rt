@@ -30,7 +30,8 @@ pub enum Unlink {
 ///
 /// Where four chains are in hand, they are flushed first. The frontier's number is stored in a frontier word that guards no
 /// chain, and then the link is exchanged. Where it was as it is expected, the answer is Detached, and the chain is the newest
-/// one in hand. Else the answer is Changed with the link that was found, and the frontier word is 0 again.
+/// one in hand. Else the answer is Changed with the link that was found, and the frontier word is 0 again. That link is learnt
+/// where it is frozen and a held record's.
 ///
 /// That a run of removed records may be taken out by one exchange is Harris's ("A Pragmatic Implementation of Non-Blocking
 /// Linked-Lists", 2001).
@@ -48,8 +49,8 @@ pub fn try_unlink<S: Shape>(
     requires may { S.may_detach pool.now.layout (known pass.old.seat).walk (known pass.old.seat).own
         (source_place pool.now.layout (known pass.old.seat) at side) (word_of first) (word_of frontier) }
     ensures same { IsSame pass.old.seat pass.new.seat }
-    ensures unlinks { Unlinks S.SIDES pool.now.layout S.chain (source_place pool.now.layout (known pass.old.seat) at side)
-        (word_of first) (word_of frontier) (view pass.old.seat) (view pass.new.seat) result }
+    ensures unlinks { Unlinks S.SIDES pool.now.layout S.frozen S.chain at side (word_of first) (word_of frontier)
+        (view pass.old.seat) (view pass.new.seat) result }
     ensures rest { IsAtRest (known pass.new.seat) pass.new.purse }
     ensures walk { pass.new.walk ≡ pass.old.walk }
     ensures purse { SameFree pass.old.purse pass.new.purse }
@@ -66,7 +67,7 @@ pub fn try_unlink<S: Shape>(
 }
 
 /// Flushes the chains in hand where there are four.
-fn flush_full<S: Shape>(pool: &Pool<S>, pass: &mut Pass<S>)
+pub fn flush_full<S: Shape>(pool: &Pool<S>, pass: &mut Pass<S>)
     requires fits { Fits pool.now.table.shared.table_id pool.now.layout pass.old.seat }
     requires rest { IsAtRest (known pass.old.seat) pass.old.purse }
     ensures same { IsSame pass.old.seat pass.new.seat }
@@ -83,7 +84,7 @@ fn flush_full<S: Shape>(pool: &Pool<S>, pass: &mut Pass<S>)
 }
 
 /// The least frontier word that guards none of these chains, of which there are fewer than four.
-fn free_word(chains: &[InHand]) -> u8
+pub fn free_word(chains: &[InHand]) -> u8
     requires { length chains.now < 4 }
     ensures low { result < 4 }
     ensures free { GuardsNone result chains.now }

@@ -15,8 +15,8 @@ loop-call-init g c = record {
   space = c.requires.may.fits;
 }
 
-pub answer_one-answer-requires-clause-may : goal.answer_one-answer-requires-clause-may
-answer_one-answer-requires-clause-may g c = record {
+pub make_call-answer-requires-clause-may : goal.make_call-answer-requires-clause-may
+make_call-answer-requires-clause-may g c = record {
   key = c.requires.may.keys c.loop-call.call-index _ (slice_get-get_or c.args.calls.now c.loop-call.call-index (Get 0) c.loop-call-test.true);
   budget_left = c.requires.races;
   room = omega (arith, c.loop-call.invariant.room);
@@ -24,11 +24,11 @@ answer_one-answer-requires-clause-may g c = record {
 
 pub loop-call-preserved : goal.loop-call-preserved
 loop-call-preserved g c = record {
-  belongs = c.answer_one-answer.ensures.belongs;
-  idle = c.answer_one-answer.ensures.idle;
+  belongs = c.make_call-answer.ensures.belongs;
+  idle = c.make_call-answer.ensures.idle;
   made = rw (take_more c.args.calls.now c.loop-call.call-index (Get 0) c.loop-call-test.true, c.enter.ensures.items)
-      (more _ _ _ _ _ _ c.loop-call.invariant.made c.answer_one-answer.ensures.answered);
-  room = omega (arith, c.loop-call.invariant.room, c.answer_one-answer.ensures.answered.grew.room);
+      (more _ _ _ _ _ _ c.loop-call.invariant.made c.make_call-answer.ensures.answered);
+  room = omega (arith, c.loop-call.invariant.room, c.make_call-answer.ensures.answered.grew.room);
   count = omega (arith, c.loop-call.invariant.count, simp length-append at (ap length c.enter.ensures.items));
   space = omega (arith, c.loop-call.invariant.space, c.enter.ensures.room);
 }

@@ -5,7 +5,7 @@ use std::test::Fail;
 
 #[test]
 fn traces_give_their_calls(rt: HostRuntime) -> Result<(), Fail> {
-    let rows: [(&[u8], [&[Call]; 2]); 9] = [
+    let rows: [(&[u8], [&[Call]; 2]); 12] = [
         (b"", [&[], &[]]),
         (b"\n\r\n \t\n\r", [&[], &[]]),
         (b"#1 get 1\n \t# \xff\xfe\n#", [&[], &[]]),
@@ -39,6 +39,33 @@ fn traces_give_their_calls(rt: HostRuntime) -> Result<(), Fail> {
             b"0001 remove 000000000000000000000000000000000000000000000000000000000000000000000000000000000000000000000000000000004",
             [&[], &[Call::Remove { key: 4 }]],
         ),
+        (b"trace 2", [&[], &[]]),
+        (
+            b"trace 2\n0 insert 7 340282366920938463463374607431768211455\n1 get 7\n0 cut 7 18446744073709551616\n1 remove 7\n",
+            [
+                &[
+                    Call::Insert {
+                        key: 7,
+                        value: 340282366920938463463374607431768211455,
+                    },
+                    Call::Cut {
+                        key: 7,
+                        value: 18446744073709551616,
+                    },
+                ],
+                &[Call::Get { key: 7 }, Call::Remove { key: 7 }],
+            ],
+        ),
+        (
+            b"# try\r\n\r\n \t\n\ttrace \t2 \r\n1 cut 18446744073709551612 0",
+            [
+                &[],
+                &[Call::Cut {
+                    key: 18446744073709551612,
+                    value: 0,
+                }],
+            ],
+        ),
     ];
     for (number, (text, expected)) in rows.iter().enumerate() {
         assert!(rt; text.len() <= 1000);
@@ -59,7 +86,7 @@ fn traces_give_their_calls(rt: HostRuntime) -> Result<(), Fail> {
 
 #[test]
 fn the_first_bad_line_is_told(rt: HostRuntime) -> Result<(), Fail> {
-    let rows: [(&[u8], u32, Why); 26] = [
+    let rows: [(&[u8], u32, Why); 43] = [
         (b"4 get 1", 1, Why::Caller),
         (b"0 get 1\n4 get 1", 2, Why::Caller),
         (b"+0 get 1", 1, Why::Caller),
@@ -94,6 +121,31 @@ fn the_first_bad_line_is_told(rt: HostRuntime) -> Result<(), Fail> {
         ),
         (b"0 insert 1 18446744073709551616", 1, Why::Value),
         (b"0 insert 1 1\x00", 1, Why::Value),
+        (b"trace 3", 1, Why::Caller),
+        (b"trace", 1, Why::Caller),
+        (b"trace 02", 1, Why::Caller),
+        (b"trace 2 x", 1, Why::Caller),
+        (b"Trace 2\n0 cut 7 1", 1, Why::Caller),
+        (b"trace2\n0 cut 7 1", 1, Why::Caller),
+        (b"trace 2\r\r\n0 cut 7 1", 1, Why::Caller),
+        (b"0 get 1\ntrace 2", 2, Why::Caller),
+        (b"#\n0 get 1\n\ntrace 2\n0 cut 7 1", 4, Why::Caller),
+        (b"trace 2\n#\ntrace 2", 3, Why::Caller),
+        (b"0 cut 7 1", 1, Why::Word),
+        (b"trace 2\n0 CUT 7 1", 2, Why::Word),
+        (b"\n# x\ntrace 2\n0 cut 7", 4, Why::Fields),
+        (b"trace 2\n0 cut 7 1 1", 2, Why::Fields),
+        (b"trace 2\n0 cut 18446744073709551613 x", 2, Why::Key),
+        (
+            b"trace 2\n0 insert 7 340282366920938463463374607431768211456",
+            2,
+            Why::Value,
+        ),
+        (
+            b"trace 2\n0 cut 7 340282366920938463463374607431768211456",
+            2,
+            Why::Value,
+        ),
     ];
     for (number, (text, line, why)) in rows.iter().enumerate() {
         assert!(rt; text.len() <= 1000);

@@ -10,7 +10,8 @@ use std::process::Abort;
 use std::test::Fail;
 
 const RUN: &[u8] = b"0 1 added\n0 2 value 70\n0 3 held 70\n0 4 took 70\n0 5 absent\n\
-63 4294967295 full\n1 10 lost\ncontents 2\n2 1\n18446744073709551612 18446744073709551615\n";
+63 4294967295 full\n1 10 lost\n63 4294967295 other 340282366920938463463374607431768211455\ncontents 2\n2 1\n\
+18446744073709551612 340282366920938463463374607431768211455\n";
 
 fn print_run(printer: &mut Printer, sink: &mut MemSink) -> Result<(), Failed>
     requires { printer.old.failed ≡ false }
@@ -22,11 +23,13 @@ fn print_run(printer: &mut Printer, sink: &mut MemSink) -> Result<(), Failed>
     printer.reply(sink, 0, 5, &Answer::Said(Reply::Absent))?;
     printer.reply(sink, 63, 4294967295, &Answer::Full)?;
     printer.reply(sink, 1, 10, &Answer::Lost { turns: 3 })?;
+    let other = Reply::Other(340282366920938463463374607431768211455);
+    printer.reply(sink, 63, 4294967295, &Answer::Said(other))?;
     let pairs = [
         Pair { key: 2, value: 1 },
         Pair {
             key: 18446744073709551612,
-            value: 18446744073709551615,
+            value: 340282366920938463463374607431768211455,
         },
     ];
     printer.contents(sink, &pairs)?;
@@ -51,7 +54,7 @@ fn stops_at(rt: &impl Abort, alloc: Global, most: usize, failing: usize) -> Resu
 
 #[test]
 fn a_run_is_printed_up_to_the_write_that_fails(rt: HostRuntime) -> Result<(), Fail> {
-    for failing in 1..=200 {
+    for failing in 1..=230 {
         stops_at(&rt, rt.alloc(), 1, failing)?;
         stops_at(&rt, rt.alloc(), 4, failing)?;
     }

@@ -32,6 +32,7 @@ pub invariant_of-pass : goal.invariant_of-pass
 invariant_of-pass g c = let pass = c.args.pass.now in let t = c.set_bits.ensures.told in let seat = c.set_bits.new.seat in record {
   keeping = keeping_invalidated g.S.Shape.SENTINELS g.S.Shape.SIDES pass.seat seat _ _ _ _ _ c.args.chain c.args.number (side_number c.args.side) pass.keeping
       (made_alone seat.me t.0.0 t.0.1.made) t.1 (made_known seat.me t.0.1.made);
+  run = c.set_bits.ensures.run;
 }
 
 pub returns : goal.returns

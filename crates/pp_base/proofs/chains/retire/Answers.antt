@@ -45,6 +45,7 @@ invariant_of-pass g c = let pass = c.args.pass.now in let same : c.index.result.
       keeping = keeping_retired g.S.Shape.SENTINELS g.S.Shape.SIDES pass.seat seat _ _ _ _ _ _ pass.keeping (made_alone seat.me t.0.0 t.0.1) t.1
           c.requires.spent (lets_go pass.purse c.remove.new.self _ _ same c.remove.ensures.items c.remove.ensures.capacity)
           (made_known seat.me t.0.1);
+      run = c.store_word.ensures.run;
     }
 
 pub returns : goal.returns

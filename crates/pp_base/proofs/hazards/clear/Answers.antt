@@ -18,6 +18,7 @@ pub invariant_of-pass : goal.invariant_of-pass
 invariant_of-pass g c = let pass = c.args.pass.now in let t = c.store_word.ensures.told in let seat = c.store_word.new.seat in record {
   keeping = keeping_stored g.S.Shape.SENTINELS g.S.Shape.SIDES pass.seat seat _ _ _ _ _ c.args.word (naming 0) _ pass.keeping
       (made_alone seat.me t.0.0 t.0.1) t.1 (made_known seat.me t.0.1);
+  run = c.store_word.ensures.run;
 }
 
 pub returns : goal.returns

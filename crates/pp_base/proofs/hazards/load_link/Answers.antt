@@ -17,6 +17,7 @@ invariant_of-pass g c = let S = g.S.Shape in let pass = c.args.pass.now in let t
     let seat = c.load_word.new.seat in record {
       keeping = keeping_loaded S.SENTINELS S.SIDES pass.seat seat _ _ _ _ _ S.frozen c.args.at c.args.side c.load_word.result pass.keeping
           (made_alone seat.me t.0.0 t.0.1.made) t.1 (made_known seat.me t.0.1.made);
+      run = c.load_word.ensures.run;
     }
 
 pub returns : goal.returns

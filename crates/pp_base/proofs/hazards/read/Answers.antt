@@ -18,6 +18,7 @@ pub invariant_of-pass : goal.invariant_of-pass
 invariant_of-pass g c = let pass = c.args.pass.now in let t = c.load_word.ensures.told in let seat = c.load_word.new.seat in record {
   keeping = keeping_idle g.S.Shape.SENTINELS g.S.Shape.SIDES pass.seat seat _ _ _ _ _ pass.keeping (made_alone seat.me t.0.0 t.0.1.made) t.1
       (made_known seat.me t.0.1.made);
+  run = c.load_word.ensures.run;
 }
 
 pub returns : goal.returns

@@ -23,6 +23,7 @@ store_word-requires-clause-allows g c = let S = g.S.Shape in let pool = c.args.p
 pub invariant_of-pass : goal.invariant_of-pass
 invariant_of-pass g c = let pass = c.args.pass.now in let t = c.store_word.ensures.told in let seat = c.store_word.new.seat in record {
   keeping = keeping_wrote g.S.Shape.SENTINELS g.S.Shape.SIDES pass.seat seat _ _ _ _ _ _ _ _ _ pass.keeping t.0.0 t.1 t.0.1;
+  run = c.store_word.ensures.run;
 }
 
 pub returns : goal.returns

@@ -30,6 +30,7 @@ invariant_of-pass g c = let pass = c.args.pass.now in let t = c.load_word-found.
           c.requires.flushed refl refl refl
           (room_parted (known pass.seat).sizes (known seat).sizes pass.purse c.part.new.free c.part.new.retired (ap (λ q. q.sizes) is)
           c.part.ensures.free_room c.part.ensures.retired_room pass.keeping.room);
+      run = c.load_word-found.ensures.run;
     }
 
 pub returns-clause-purse : goal.returns-clause-purse

@@ -15,6 +15,7 @@ pub invariant_of-pass : goal.invariant_of-pass
 invariant_of-pass g c = let pass = c.args.pass.now in let t = c.load_word.ensures.told in let seat = c.load_word.new.seat in record {
   keeping = keeping_scanned g.S.Shape.SENTINELS g.S.Shape.SIDES pass.seat seat _ _ _ _ _ c.load_word.result pass.keeping
       (made_alone seat.me t.0.0 t.0.1) t.1 (made_known seat.me t.0.1);
+  run = c.load_word.ensures.run;
 }
 
 pub returns : goal.returns

@@ -1,5 +1,5 @@
 use Rattle.std.proofs.Common.{arith}
-use Rattle.pp_base.proofs.Telling.{keyed}
+use Rattle.pp_base.proofs.Telling.{keyed_run}
 use Rattle.pp_base.proofs.steps.store_word.Goals as goal
 
 pub store-requires : goal.store-requires
@@ -7,6 +7,7 @@ store-requires g c = let N = g.N.StepNote in let pool = c.args.pool.now in let s
     let wide = pool.wide in (
       c.requires.table,
       omega arith,
-      keyed _ _ _ pool.layout pool.table.shared.key _ _ seat.me _ (λ _. c.args.new)
+      keyed_run _ _ _ g.S.Shape.caller_of g.met.S.Shape.own_changes pool.layout pool.table.shared.key _ _ seat.me _
+          (λ _. c.args.new)
           (λ _. N.then seat.me c.args.new) pool.keyed pool.slotless c.requires.allows,
     )

@@ -70,6 +70,7 @@ pub returns-then-invalid-2-clause-others : goal.returns-then-invalid-2-clause-ot
 returns-then-invalid-2-clause-others g c = let S = g.S.Shape in let pass = c.args.pass.now in
     others_lost S.SIDES c.args.pool.now.layout S.frozen S.forget c.args.source c.args.side c.args.word (view pass.seat)
     pass.keeping.pass.five c.requires.readable
+    (free_where_0 _ (known pass.seat) c.args.word pass.keeping.pass c.requires.word c.requires.clear)
     (view c.clear.new.pass.seat) c.confirm-second.result
     (finds_other S.SIDES c.args.pool.now.layout S.frozen S.forget c.args.source c.args.side c.args.word (view pass.seat)
     pass.keeping.pass.five c.requires.readable
@@ -105,4 +106,5 @@ pub returns-clause-others : goal.returns-clause-others
 returns-clause-others g c = let S = g.S.Shape in let pass = c.args.pass.now in
     others_lost S.SIDES c.args.pool.now.layout S.frozen S.forget c.args.source c.args.side c.args.word (view pass.seat)
     pass.keeping.pass.five c.requires.readable
+    (free_where_0 _ (known pass.seat) c.args.word pass.keeping.pass c.requires.word c.requires.clear)
     (view c.clear.new.pass.seat) _ (returns-clause-answered g c).0

@@ -4,7 +4,7 @@ use Rattle.std.proofs.lemmas.List.{take_more}
 use Rattle.std.proofs.lemmas.Option.{slice_get-get_or}
 use Rattle.pp_model.specs.declared.Call.TheVariants.{Get}
 use Rattle.pp_model.specs.MapCalls.{AnswersCalls, none, more}
-use Rattle.pp_model.proofs.Chains.{answers_each, caller_kept, room_left, steps_grown, stands_after, mine_grown}
+use Rattle.pp_model.proofs.Chains.{answers_each, caller_kept, room_left, steps_grown, mine_grown}
 use Rattle.pp_model.proofs.calling.answer_all.Given.{Over}
 use Rattle.pp_model.proofs.calling.answer_all.Goals as goal
 
@@ -70,6 +70,3 @@ returns-clause-mine g c = mine_grown _ _ _ _ _ _ _ (all g c)
 
 pub returns-clause-steps : goal.returns-clause-steps
 returns-clause-steps g c = steps_grown _ _ _ _ _ _ _ (all g c)
-
-pub returns-clause-stands : goal.returns-clause-stands
-returns-clause-stands g c = stands_after _ _ _ _ _ _ _ (all g c)

@@ -5,6 +5,6 @@ use Rattle.pp_model.proofs.plain.numbers.Given as goal
 
 abbrev pub invariant-loop-n : goal.invariant-loop-n
 invariant-loop-n l = record {
-  items : l.numbers.items ≡ upto (l.below + 1) (l.n - l.below);
-  room : l.last - l.below ≤ vec_capacity l.numbers;
+  items : l.numbers.items ≡ upto (l.first + 1) (l.n - l.first);
+  room : l.last - l.first ≤ vec_capacity l.numbers;
 }

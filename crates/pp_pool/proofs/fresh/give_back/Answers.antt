@@ -16,6 +16,7 @@ invariant_of-pass g c = let pass = c.args.pass.now in record {
   keeping = keeping_gave g.S.Shape.SENTINELS g.S.Shape.SIDES pass.seat _ _ _ pass.purse pass.keeping c.push.new.self c.args.fresh.number
       c.requires (last_is pass.purse.free.items c.push.new.self.items c.args.fresh.number _ _ c.push.ensures.items c.unwrap.ensures)
       c.push.ensures.capacity;
+  run = pass.run;
 }
 
 pub returns-clause-purse : goal.returns-clause-purse

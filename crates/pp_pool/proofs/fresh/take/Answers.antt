@@ -7,6 +7,7 @@ invariant_of-pass g c = let pass = c.args.pass.now in let n = c.unwrap-number.re
   keeping = keeping_took g.S.Shape.SENTINELS g.S.Shape.SIDES pass.seat _ _ _ pass.purse pass.keeping c.pop.new.self n _
       (last_was pass.purse.free.items c.pop.new.self.items n _ c.pop.ensures.items c.unwrap-number.ensures)
       c.pop.ensures.capacity c.saturating_add-pass.ensures;
+  run = pass.run;
 }
 
 pub returns-clause-private : goal.returns-clause-private

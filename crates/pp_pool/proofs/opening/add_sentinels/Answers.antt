@@ -9,7 +9,8 @@ loop-before-init g c = let field = g.S.Shape.first_field in
 
 pub add_sentinel-requires-clause-room : goal.add_sentinel-requires-clause-room
 add_sentinel-requires-clause-room g c = let field = g.S.Shape.first_field in
-    let count = long c.args.words.now.items c.loop-before.words.items (fields_from field 1 c.loop-before.before) (4 * c.loop-before.before)
+    let count = long c.args.words.now.items c.loop-before.words.items (fields_from field 1 c.loop-before.before)
+    (5 * c.loop-before.before)
     c.loop-before.invariant.0 (length_fields field 1 c.loop-before.before) in
     let most = c.SENTINELS-before-end.ensures in omega arith
 

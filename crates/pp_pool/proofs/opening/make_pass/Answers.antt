@@ -2,6 +2,7 @@ use Rattle.std.proofs.Common.{ℕ, ◌≡◌, ◌+◌, ◌≤◌, ◌<◌, arith
 use Rattle.pp_rule.specs.Opening.{share_of, start_of}
 use Rattle.pp_pool.proofs.Dealt.{share_within, beside_dealt, new_pass}
 use Rattle.pp_pool.proofs.Rooms.{new_purse}
+use Rattle.pp_pool.proofs.Noting.{run_open}
 use Rattle.pp_pool.proofs.opening.make_pass.Goals as goal
 
 pub list_share-requires-clause-room : goal.list_share-requires-clause-room
@@ -26,6 +27,7 @@ invariant_of-result g c = let sentinels : ℕ = g.S.Shape.SENTINELS in let z = c
       c.requires.within c.requires.sentinels c.requires.number refl c.share_for-share.ensures refl
       (new_purse z (start_of sentinels z n) (share_of sentinels z n) c.args.first c.share_for-share.result c.args.room c.list_share.new.free
       c.requires.room c.list_share.ensures.numbers c.list_share.ensures.room c.requires.first c.share_for-share.ensures);
+  run = run_open g.S.Shape.SENTINELS g.S.Shape.first_head g.S.Shape.first_field g.S.Shape.caller_of c.args.seat _ c.requires.seat;
 }
 
 pub returns-clause-made : goal.returns-clause-made

@@ -13,7 +13,7 @@ add_sentinels-requires g c =
     c.add_heads.ensures.words (length_words S.first_head 0 c.args.sizes.heads) in
     let none : length c.in-Ok.words.items ≡ 0 = ap length c.in-Ok.ensures.items in
     let sentinels : S.SENTINELS ≤ c.args.sizes.records = c.requires.sentinels in
-    let room : low + c.args.sizes.heads + 4 * c.args.sizes.records ≤ vec_capacity c.in-Ok.words = c.in-Ok.ensures.capacity in
+    let room : low + c.args.sizes.heads + 5 * c.args.sizes.records ≤ vec_capacity c.in-Ok.words = c.in-Ok.ensures.capacity in
     let first : vec_capacity c.in-Ok.words ≤ vec_capacity c.add_zeros.new.words = c.add_zeros.ensures.room in
     let second : vec_capacity c.add_zeros.new.words ≤ vec_capacity c.add_heads.new.words = c.add_heads.ensures.room in omega arith
 
@@ -24,12 +24,13 @@ add_zeros-requires-2 g c =
     let a = long c.in-Ok.words.items c.add_zeros.new.words.items (replicate low 0) low c.add_zeros.ensures.words (length-replicate low 0) in
     let b = long c.add_zeros.new.words.items c.add_heads.new.words.items (words_from S.first_head 0 c.args.sizes.heads) c.args.sizes.heads
     c.add_heads.ensures.words (length_words S.first_head 0 c.args.sizes.heads) in
-    let d = long c.add_heads.new.words.items c.add_sentinels.new.words.items (fields_from S.first_field 1 S.SENTINELS) (4 * S.SENTINELS)
+    let d = long c.add_heads.new.words.items c.add_sentinels.new.words.items (fields_from S.first_field 1 S.SENTINELS)
+    (5 * S.SENTINELS)
     c.add_sentinels.ensures.words (length_fields S.first_field 1 S.SENTINELS) in
     let none : length c.in-Ok.words.items ≡ 0 = ap length c.in-Ok.ensures.items in
     let sentinels : c.SENTINELS.result ≡ S.SENTINELS = c.SENTINELS.ensures in
     let most : S.SENTINELS ≤ c.args.sizes.records = c.requires.sentinels in
-    let room : low + c.args.sizes.heads + 4 * c.args.sizes.records ≤ vec_capacity c.in-Ok.words = c.in-Ok.ensures.capacity in
+    let room : low + c.args.sizes.heads + 5 * c.args.sizes.records ≤ vec_capacity c.in-Ok.words = c.in-Ok.ensures.capacity in
     let first : vec_capacity c.in-Ok.words ≤ vec_capacity c.add_zeros.new.words = c.add_zeros.ensures.room in
     let second : vec_capacity c.add_zeros.new.words ≤ vec_capacity c.add_heads.new.words = c.add_heads.ensures.room in
     let third : vec_capacity c.add_heads.new.words ≤ vec_capacity c.add_sentinels.new.words = c.add_sentinels.ensures.room in omega arith

@@ -3,7 +3,7 @@ use Rattle.std.proofs.lemmas.List.{length-map}
 use Rattle.std.proofs.lemmas.Option.{slice_get_read}
 use Rattle.pp_replay.proofs.Lists.{at_mapped}
 use Rattle.pp_replay.proofs.PlainRuns.{under, short, few}
-use Rattle.pp_replay.proofs.Finishes.{cause_of}
+use Rattle.pp_replay.proofs.Finishes.{refused, cause_of}
 use Rattle.pp_replay.proofs.attempt.run_plain.Goals as goal
 
 pub overflow_cast-calls : goal.overflow_cast-calls
@@ -35,12 +35,24 @@ finish-way-requires-clause-few g c =
     c.in-Ok-run_on.ran.closed.witness.placed.items c.in-Ok.pass _ _ run c.requires.calls.short in
     omega (arith, small, ap length c.contents.ensures, ap length c.in-Ok-run_on.ensures.contents)
 
+pub returns-in_default : goal.returns-in_default
+returns-in_default g c = λ words before after said_by calls.
+    refused words c.args.settings _ before after _ _ _ _ said_by calls c.without_run.ensures.0
+
+pub returns-in_default-from_array : goal.returns-in_default-from_array
+returns-in_default-from_array g c = λ words before after said_by calls.
+    refused words c.args.settings _ before after _ _ _ _ said_by calls c.without_run-in_default-from_array.ensures.0
+
+pub returns-in_default-run_on : goal.returns-in_default-run_on
+returns-in_default-run_on g c = λ words before after said_by calls.
+    refused words c.args.settings _ before after _ _ _ _ said_by calls c.without_run-in_default-run_on.ensures.0
+
 pub returns : goal.returns
 returns g c = λ words before after said_by calls.
     let run = rw (c.in-Ok.ensures.sizes, c.in-Ok-from_array.ensures.items) at c.in-Ok-run_on.ensures.ran in
     let ends = rw (c.deref.ensures.value, c.contents.ensures, c.in-Ok-run_on.ensures.contents) at c.finish-way.ensures in
     cause_of words c.args.settings (map (λ v. v.items) c.args.lists.items) (map (λ v. v.items) c.in-Ok-run_on.ran.answers.items)
-    _ before _ after _ said_by calls
+    _ before _ after _ said_by (rw c.requires.plain tt) calls
     (under c.args.settings (map (λ v. v.items) c.args.lists.items) (map (λ v. v.items) c.in-Ok-run_on.ran.answers.items) _ c.in-Ok.pass
     c.requires.within c.requires.plain c.in-Ok.ensures.share run)
     c.finish-way.result ends

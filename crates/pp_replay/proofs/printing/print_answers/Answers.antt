@@ -3,8 +3,12 @@ use Rattle.std.proofs.lemmas.List.{length-map}
 use Rattle.std.proofs.lemmas.Result.{err_from_is_err_and}
 use Rattle.pp_replay.proofs.Lists.{at_mapped}
 use Rattle.std.proofs.lemmas.Option.{slice_get_read}
+use Rattle.pp_trace.proofs.Buffered.{Puts-none}
 use Rattle.pp_replay.proofs.PrintedTexts.{Puts-more, Puts-short, callers_more, callers_whole}
 use Rattle.pp_replay.proofs.printing.print_answers.Goals as goal
+
+pub loop-given-init : goal.loop-given-init
+loop-given-init g c = record { caller = refl; printed = Puts-none _ _ _ _ _ c.requires.whole }
 
 pub print_caller-requires-clause-short : goal.print_caller-requires-clause-short
 print_caller-requires-clause-short g c =

@@ -7,6 +7,6 @@ use Rattle.pp_replay.proofs.printing.print_answers.Given as goal
 abbrev pub invariant-loop-given : goal.invariant-loop-given
 invariant-loop-given g l = record {
   caller : l.caller ≡ l.given-index;
-  printed : Puts g.K.Sink.written g.K.Sink.faults l.fn.sink l.sink l.fn.printer l.printer
+  printed : Puts g.K.Sink.written g.K.Sink.faults g.K.Sink.Writes l.fn.sink l.sink l.fn.printer l.printer
       (callers_text 0 (map (λ v. v.items) (take l.given-index l.answers))) (Ok tt);
 }

@@ -1,7 +1,11 @@
-use Rattle.std.proofs.Common.{arith, ◌+◌, Ok, Err}
+use Rattle.std.proofs.Common.{arith, refl, ◌+◌, Ok, Err}
 use Rattle.std.proofs.lemmas.Result.{err_from_is_err_and}
+use Rattle.pp_trace.proofs.Buffered.{Puts-none}
 use Rattle.pp_replay.proofs.PrintedTexts.{Puts-more, Puts-short, caller_more, caller_whole}
 use Rattle.pp_replay.proofs.printing.print_caller.Goals as goal
+
+pub loop-answer-init : goal.loop-answer-init
+loop-answer-init g c = record { number = refl; printed = Puts-none _ _ _ _ _ c.requires.whole }
 
 pub returns-in_err-reply : goal.returns-in_err-reply
 returns-in_err-reply g c =

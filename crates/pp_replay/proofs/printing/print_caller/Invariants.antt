@@ -7,6 +7,6 @@ use Rattle.pp_replay.proofs.printing.print_caller.Given as goal
 abbrev pub invariant-loop-answer : goal.invariant-loop-answer
 invariant-loop-answer g l = record {
   number : l.number ≡ l.answer-index + 1;
-  printed : Puts g.K.Sink.written g.K.Sink.faults l.fn.sink l.sink l.fn.printer l.printer (caller_text l.caller 1
+  printed : Puts g.K.Sink.written g.K.Sink.faults g.K.Sink.Writes l.fn.sink l.sink l.fn.printer l.printer (caller_text l.caller 1
       (take l.answer-index l.answers)) (Ok tt);
 }

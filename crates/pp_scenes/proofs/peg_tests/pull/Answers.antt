@@ -1,4 +1,4 @@
-use Rattle.std.proofs.Common.{◌≡◌, ◌+◌, ◌*◌, sym, ap, ◌∙◌, arith}
+use Rattle.std.proofs.Common.{◌≡◌, ◌*◌, sym, ap, ◌∙◌, arith}
 use Rattle.pp_link.specs.Links.{word_of, target}
 use Rattle.pp_base.specs.Passes.{known}
 use Rattle.pp_base.proofs.Chaining.{word_target}
@@ -19,13 +19,14 @@ try_unlink-answer-requires-clause-rest g c = let before = c.args.pass.now in let
 
 pub try_unlink-answer-requires-clause-may : goal.try_unlink-answer-requires-clause-may
 try_unlink-answer-requires-clause-may g c = let holding = c.try_protect.new.pass in
-    let first_is : word_of c.in-Confirmed.first ≡ 16 * (c.args.head + 1) = omega arith in
-    let leads : target (16 * (c.args.head + 1)) ≡ c.args.head + 1 = omega arith in
-    may_pull c.args.pool.now.layout c.args.head (word_of c.in-Confirmed.first) (word_of c.pack-nil.result) (word_of c.link-learnt.result)
+    let first_is : word_of c.in-Confirmed.first ≡ 16 * c.args.peg = omega arith in
+    let leads : target (16 * c.args.peg) ≡ c.args.peg = omega arith in
+    may_pull c.args.pool.now.layout c.args.peg (word_of c.in-Confirmed.first) (word_of c.pack-past.result)
+    (word_of c.link-learnt.result)
     holding.seat c.link-learnt.new.pass.seat holding.keeping.pass.five c.link-learnt.ensures.loaded (omega arith)
     c.in-Confirmed.ensures.word.0
     (c.in-Confirmed.ensures.word.1 ∙ (sym (word_target c.in-Confirmed.first) ∙ (ap target first_is ∙ leads)))
-    c.requires.few c.requires.has first_is (ap word_of c.pack-nil.ensures)
+    c.requires.some_is c.requires.few first_is (ap word_of c.pack-past.ensures ∙ omega arith)
 
 pub returns-clause-rest : goal.returns-clause-rest
 returns-clause-rest g c = let before = c.try_unlink-answer.new.pass in let now = c.clear.new.pass in

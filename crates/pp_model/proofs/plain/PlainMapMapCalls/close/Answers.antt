@@ -1,7 +1,8 @@
 use Rattle.std.proofs.Common.{◌≡◌, ℕ, ◌+◌, ◌-◌, List, [], ◌∷◌, ◌++◌, length, map, sym, ap, ◌∙◌, subst, arith, length-append}
 use Rattle.std.proofs.lemmas.List.{nil_from_length}
 use Rattle.std.specs.Prelude.{slice_get, Vec}
-use Rattle.std.proofs.Common.{Global}
+use Rattle.std.proofs.Common.{Global, Some, get_or}
+use Rattle.std.proofs.lemmas.Option.{slice_get-get_or}
 use Rattle.pp_model.specs.declared.plain.PlainKept.{PlainKept}
 use Rattle.pp_model.specs.declared.Pair.{Pair}
 use Rattle.pp_model.specs.Pass.{PassView, MapSizes}
@@ -11,6 +12,18 @@ use Rattle.pp_model.specs.MapCalls.{IsClosing}
 use Rattle.pp_model.specs.Plain.{log_of, plain_pass, plain_meaning, plain_sizes, plain_run}
 use Rattle.pp_model.proofs.PlainPasses.{plain_closing}
 use Rattle.pp_model.proofs.plain.PlainMapMapCalls.close.Goals as goal
+
+-- what was read of the first pass is of the map's size
+pub numbers-requires : goal.numbers-requires
+numbers-requires c =
+    let pass = c.behind-passes.inside in
+    let first = slice_get-get_or c.args.passes.items 0 c.index.result.now (omega (arith, c.requires.all)) in
+    let view = plain_pass pass.records pass.calls pass.pairs.items pass.placed.items in
+    let same : view ≡ get_or c.args.passes.items 0 c.index.result.now = c.behind-passes.view_is ∙ c.index.ensures in
+    let here : slice_get c.args.passes.items 0 ≡ Some view = first ∙ ap (λ (v : PassView). Some v) (sym same) in
+    let share : pass.records ≡ c.args.self.records = (c.requires.each 0 view here).0.share in
+    let own : c.self.inside.records ≡ c.args.self.records = ap (λ (z : MapSizes). z.records) c.self.view_is in
+    omega (arith, c.len-kept.ensures, c.behind-passes.invariant.holds.pairs_fit, share, own, pass.pairs.ok)
 
 module _ (c : goal.After-drop-passes) where
   -- the pass is the only one
@@ -34,7 +47,7 @@ module _ (c : goal.After-drop-passes) where
 
   records : c.pass.inside.records ≡ c.args.self.records
   records = let first = c.requires.each 0 c.in-Some.pass (ap (λ ps. slice_get ps 0) only) in
-      ap (λ (v : PassView). v.share) c.pass.view_is ∙ first.0
+      ap (λ (v : PassView). v.share) c.pass.view_is ∙ first.0.share
 
 pub returns-clause-closed : goal.returns-clause-closed
 returns-clause-closed c =

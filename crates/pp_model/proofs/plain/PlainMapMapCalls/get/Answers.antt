@@ -1,4 +1,9 @@
+use Rattle.pp_model.proofs.PlainPasses.{plain_belongs}
 use Rattle.pp_model.proofs.plain.PlainMapMapCalls.get.Goals as goal
 
+pub returns-clause-belongs : goal.returns-clause-belongs
+returns-clause-belongs c =
+    plain_belongs _ _ _ _ _ _ _ c.requires.belongs (c.get.ensures c.args._races c.requires.may.budget_left)
+
 pub returns-clause-answered : goal.returns-clause-answered
-returns-clause-answered c = rw (← c.requires.belongs) (c.get.ensures c.args._races c.requires.may.budget_left)
+returns-clause-answered c = rw (← c.requires.belongs.share) (c.get.ensures c.args._races c.requires.may.budget_left)

@@ -20,3 +20,12 @@ returns-in-Some-remove c = rw c.in-Remove.is c.in-Some-remove.ensures
 
 pub returns-in-None-remove : goal.returns-in-None-remove
 returns-in-None-remove c = rw c.in-Remove.is c.in-None-remove.ensures
+
+pub returns-in-Took : goal.returns-in-Took
+returns-in-Took c = rw c.in-Cut.is c.in-Took.ensures
+
+pub returns-in-Other : goal.returns-in-Other
+returns-in-Other c = rw c.in-Cut.is c.in-Other.ensures
+
+pub returns-in-Absent : goal.returns-in-Absent
+returns-in-Absent c = rw c.in-Cut.is c.in-Absent.ensures

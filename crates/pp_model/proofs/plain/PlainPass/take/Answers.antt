@@ -1,10 +1,11 @@
 use Rattle.std.proofs.Common.{◌≡◌, ◌+◌, ◌<◌, Some, length, sym, ap, ◌∙◌, subst, arith}
 use Rattle.std.proofs.lemmas.Option.{slice_get_read}
-use Rattle.pp_model.specs.declared.Call.TheVariants.{Remove}
 use Rattle.pp_model.specs.declared.Reply.TheVariants.{Took}
+use Rattle.pp_model.specs.Pass.{PassView}
+use Rattle.pp_model.specs.History.{contents_of}
 use Rattle.pp_model.specs.FiniteMap.{find, drop_key, KeysRise, HasKeyAt}
-use Rattle.pp_model.specs.Calls.{reply, reply_at, map_after, map_after_at}
-use Rattle.pp_model.proofs.Maps.{RisesFrom-drop_key, length-drop_key}
+use Rattle.pp_model.specs.Calls.{reply, map_after, Takes}
+use Rattle.pp_model.proofs.Maps.{RisesFrom-drop_key, length-drop_key, takes_reply, takes_after}
 use Rattle.pp_model.proofs.PlainPasses.{IsPlainChange, takes, holds_entered, count_entered, answers_entered, length-changes_from}
 use Rattle.pp_model.proofs.plain.PlainPass.take.Goals as goal
 
@@ -36,16 +37,21 @@ module _ (c : goal.After-push_reserved) where
   rises : KeysRise c.remove-value.new.self.items
   rises = subst (λ m. KeysRise m) (sym is) (RisesFrom-drop_key c.self.inside.pairs.items 0 c.args.key c.self.invariant.holds.rises)
 
-  change : IsPlainChange c.self.inside.pairs.items c.self.inside.records (Remove c.args.key) (Took c.remove-value.result.value)
+  how : Takes c.args.call c.args.key c.remove-value.result.value
+  how = c.requires.takes c.remove-value.result.value
+      (sym (ap (λ m. find m c.args.key) c.self.invariant.holds.contents ∙ ap (λ (v : PassView). find (contents_of v.seen) c.args.key)
+      c.self.view_is) ∙ found)
+
+  change : IsPlainChange c.self.inside.pairs.items c.self.inside.records c.args.call (Took c.remove-value.result.value)
       c.remove-value.new.self.items
-  change = takes c.args.key c.remove-value.result.value c.remove-value.new.self.items
+  change = takes c.args.call c.args.key c.remove-value.result.value c.remove-value.new.self.items how
       (ap (λ m. length m + 1) is ∙ length-drop_key c.self.inside.pairs.items c.args.key c.remove-value.result.value found)
 
-  right : reply c.self.inside.pairs.items (Remove c.args.key) ≡ Took c.remove-value.result.value
-  right = ap (reply_at (Remove c.args.key)) found
+  right : reply c.self.inside.pairs.items c.args.call ≡ Took c.remove-value.result.value
+  right = takes_reply c.self.inside.pairs.items c.args.call c.args.key c.remove-value.result.value how found
 
-  after : c.remove-value.new.self.items ≡ map_after c.self.inside.pairs.items (Remove c.args.key)
-  after = is ∙ sym (ap (map_after_at c.self.inside.pairs.items (Remove c.args.key)) found)
+  after : c.remove-value.new.self.items ≡ map_after c.self.inside.pairs.items c.args.call
+  after = is ∙ sym (takes_after c.self.inside.pairs.items c.args.call c.args.key c.remove-value.result.value how found)
 
 pub invariant_of-self : goal.invariant_of-self
 invariant_of-self c =
@@ -62,8 +68,11 @@ invariant_of-self c =
       calls_room = omega (arith, whole.calls_room, c.push_reserved.ensures.room);
     }
 
-pub returns : goal.returns
-returns c =
+pub returns-clause-takes : goal.returns-clause-takes
+returns-clause-takes c = how c
+
+pub returns-clause-answered : goal.returns-clause-answered
+returns-clause-answered c =
     let pass = c.self.inside in
     let whole = c.self.invariant in
     rw (← c.self.view_is)

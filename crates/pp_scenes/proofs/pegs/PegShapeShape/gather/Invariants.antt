@@ -1,11 +1,14 @@
-use Rattle.std.proofs.Common.{◌≡◌, ◌≤◌, map, vec_capacity}
-use Rattle.pp_scenes.specs.Pegs.{standing, pair_of}
+use Rattle.std.proofs.Common.{◌≡◌, ◌-◌, ◌≤◌, map, vec_capacity}
+use Rattle.pp_rule.specs.Opening.{numbers_from}
+use Rattle.pp_scenes.specs.Pegs.{pair_of}
 use Rattle.pp_scenes.proofs.pegs.PegShapeShape.gather.Given as goal
 
-abbrev pub invariant-loop-head : goal.invariant-loop-head
-invariant-loop-head l = record {
-  live : l.live.items ≡ standing l.layout l.words l.head;
-  contents : l.contents.items ≡ map pair_of (standing l.layout l.words l.head);
+abbrev pub invariant-loop-number : goal.invariant-loop-number
+invariant-loop-number l = record {
+  above : l.first ≤ l.number;
+  below : l.number ≤ 6;
+  live : l.live.items ≡ numbers_from l.first (l.number - l.first);
+  contents : l.contents.items ≡ map pair_of (numbers_from l.first (l.number - l.first));
   live_room : l.layout.records ≤ vec_capacity l.live;
   contents_room : l.layout.records ≤ vec_capacity l.contents;
 }

@@ -6,5 +6,5 @@ use Rattle.pp_trace.proofs.printing.Printer.contents.Given as goal
 
 abbrev pub invariant-loop-pair : goal.invariant-loop-pair
 invariant-loop-pair g l =
-    Puts g.K.Sink.written g.K.Sink.faults l.fn.sink l.sink l.fn.self l.self
+    Puts g.K.Sink.written g.K.Sink.faults g.K.Sink.Writes l.fn.sink l.sink l.fn.self l.self
     (counted_line (codes "contents ") (length l.pairs) ++ flat_map pair_line (take l.pair-index l.pairs)) (Ok tt)

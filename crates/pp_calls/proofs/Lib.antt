@@ -1,0 +1,4 @@
+pub mod Growing
+pub mod Remaining
+pub mod Purses
+pub mod Striking

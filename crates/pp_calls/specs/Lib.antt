@@ -1,0 +1,2 @@
+pub mod PoolViews
+pub mod Steps

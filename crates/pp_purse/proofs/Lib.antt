@@ -1,0 +1,3 @@
+pub mod Reclaiming
+pub mod Stretches
+pub mod Purses
