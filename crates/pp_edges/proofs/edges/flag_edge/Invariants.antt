@@ -1,0 +1,9 @@
+use Rattle.std.proofs.Common.{◌≡◌, []}
+use Rattle.pp_base.specs.Passes.{IsPassOf}
+use Rattle.pp_edges.specs.Edging.{FlagsAt}
+use Rattle.pp_edges.proofs.edges.flag_edge.Given as goal
+
+abbrev pub ghosts-exchange_word : goal.ghosts-exchange_word
+ghosts-exchange_word a = record {
+  then = λ m n m'. ((m'.1 ≡ []) × FlagsAt a.place a.first n m.0 m'.0) × IsPassOf a.pool.now.layout m'.0.known;
+}

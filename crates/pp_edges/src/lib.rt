@@ -1,0 +1,8 @@
+//! The shape of the pool of a tree, and the steps with which calls change a tree's edges.
+#![tactic(auto)]
+
+pub mod edges;
+pub mod shape;
+
+pub use edges::{Flagged, Published, flag, publish, splice, tag};
+pub use shape::TreeShape;

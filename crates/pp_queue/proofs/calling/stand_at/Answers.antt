@@ -1,0 +1,49 @@
+use Rattle.std.proofs.Common.{◌≡◌, ℕ, ◌+◌, true, false, eqb, refl, eq-eqb, ne_eqb}
+use Rattle.pp_queues.specs.Losses.{Tally, losing}
+use Rattle.pp_queues.proofs.Counting.{ran_both}
+use Rattle.pp_queue.proofs.Running.{ran_idle, ran_came}
+use Rattle.pp_base.specs.Passes.{known, view}
+use Rattle.pp_queue.proofs.Going.{rest_walk, rest_cleared, rest_self, goes_made, goes_on}
+use Rattle.pp_queue.specs.Calling.{SameRest}
+use Rattle.pp_queue.proofs.calling.stand_at.Goals as goal
+
+pub returns-then-second-first-clause-on : goal.returns-then-second-first-clause-on
+returns-then-second-first-clause-on c = let v = view c.args.pass.now.seat in let a = view c.announce.new.pass.seat in
+    let b = view c.come-second.new.pass.seat in let w = view c.clear.new.pass.seat in
+    goes_on v a w (goes_made v a c.announce.ensures.made (rest_walk v.known 0 _))
+    (goes_on a b w (goes_made a b (c.come-second.ensures.came.other c.if-second-first.true) (rest_self a.known))
+    (goes_made b w c.clear.ensures.made (rest_cleared b.known 0)))
+
+pub returns-clause-on : goal.returns-clause-on
+returns-clause-on c = let v = view c.args.pass.now.seat in let a = view c.announce.new.pass.seat in
+    let b = view c.come-second.new.pass.seat in
+    goes_on v a b (goes_made v a c.announce.ensures.made (rest_walk v.known 0 _))
+    (goes_made a b (c.come-second.ensures.came.same c.if-second-first.false).1.1 record {
+      number = refl;
+      sizes = refl;
+      owned = refl;
+      retired_are = refl;
+      frontier = refl;
+      chains = refl;
+      scan = refl;
+      going = refl;
+      start = refl;
+    })
+
+pub returns-then-second-first-clause-steps : goal.returns-then-second-first-clause-steps
+returns-then-second-first-clause-steps c = λ n. let passes = c.args.pool.now.layout.passes in let word : ℕ = c.args.first in
+    let t : ℕ → Tally = λ k. losing word k in
+    let v = view c.args.pass.now.seat in let a = view c.announce.new.pass.seat in
+    let b = view c.come-second.new.pass.seat in let w = view c.clear.new.pass.seat in
+    ran_both passes (t n) (t n) (t (n + 1)) v a w (ran_idle passes v a (t n) c.announce.ensures.made refl refl)
+    (ran_both passes (t n) (t (n + 1)) (t (n + 1)) a b w
+    (ran_came passes a b _ _ word _ _ n c.come-second.ensures.came false (ne_eqb _ word c.if-second-first.true))
+    (ran_idle passes b w (t (n + 1)) c.clear.ensures.made refl refl))
+
+pub returns-clause-steps : goal.returns-clause-steps
+returns-clause-steps c = λ n. let passes = c.args.pool.now.layout.passes in let word : ℕ = c.args.first in
+    let t : ℕ → Tally = λ k. losing word k in
+    let v = view c.args.pass.now.seat in let a = view c.announce.new.pass.seat in
+    let b = view c.come-second.new.pass.seat in
+    ran_both passes (t n) (t n) (t n) v a b (ran_idle passes v a (t n) c.announce.ensures.made refl refl)
+    (ran_came passes a b _ _ word _ _ n c.come-second.ensures.came true (eq-eqb _ word c.if-second-first.false))

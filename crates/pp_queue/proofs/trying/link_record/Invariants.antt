@@ -1,0 +1,20 @@
+use Rattle.std.proofs.Common.{◌≡◌, ◌<◌, ◌-◌}
+use Rattle.pp_base.specs.Passes.{known, view, IsSame}
+use Rattle.pp_queues.specs.Losses.{losing, Ran}
+use Rattle.pp_queue.specs.Calling.{GoesOn, IsHeadWord, EmptyFrom}
+use Rattle.pp_queue.proofs.trying.link_record.Given as goal
+
+abbrev pub invariant-again : goal.invariant-again
+invariant-again l = record {
+  few : l.turns < l.races;
+  goes : GoesOn (view l.initial.pass.seat) (view l.pass.seat);
+  ran : Ran l.pool.layout.passes (losing l.initial.first 0) (losing l.first l.turns) (view l.initial.pass.seat)
+      (view l.pass.seat);
+  same : IsSame l.initial.pass.seat l.pass.seat;
+  first : IsHeadWord l.first;
+  empty : EmptyFrom 0 (known l.pass.seat);
+  purse : l.pass.purse ≡ l.initial.pass.purse;
+}
+
+abbrev pub decreases-again : goal.decreases-again
+decreases-again l = l.races - l.turns

@@ -1,0 +1,5 @@
+pub mod Steps
+pub mod Calling
+pub mod Answers
+pub mod Passes
+pub mod Closings

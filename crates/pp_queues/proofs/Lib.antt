@@ -1,0 +1,14 @@
+pub mod Histories
+pub mod Lining
+pub mod Keeping
+pub mod Laws
+pub mod Telling
+pub mod Loading
+pub mod Moving
+pub mod Putting
+pub mod Owning
+pub mod Taking
+pub mod Closing
+pub mod Mapped
+pub mod Remaining
+pub mod Counting

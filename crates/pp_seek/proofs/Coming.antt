@@ -1,0 +1,271 @@
+-- What the parts of a turn of a seek come to.
+use Rattle.std.proofs.Common.{◌≡◌, ◌≢◌, inl, ⊎_elim, ℕ, ◌+◌, ◌*◌, ◌/◌, ◌%◌, ◌<◌, ◌≤◌, Bool, true, false, cond}
+use Rattle.std.proofs.Common.{length}
+use Rattle.std.proofs.Common.{refl, sym, ap, ◌∙◌, subst, arith}
+use Rattle.std.specs.Prelude.{nat_lt}
+use Rattle.pp_link.specs.declared.layout.Sizes.{Sizes}
+use Rattle.pp_link.specs.declared.link.Link.{Link}
+use Rattle.pp_link.specs.Links.{bit, word_of, target, flag_bit, tag_bit, invalid_bit}
+use Rattle.pp_link.specs.Places.{cell_place}
+use Rattle.pp_model.specs.Calls.{key_of}
+use Rattle.pp_rule.specs.Lists.{IsIn}
+use Rattle.pp_rule.specs.Orders.{announce_step}
+use Rattle.pp_rule.specs.declared.views.WalkSlot.{WalkSlot}
+use Rattle.pp_rule.specs.Views.{slot, naming}
+use Rattle.pp_rule.specs.Steps.{MadeQuietStep, with_walk, learning}
+use Rattle.pp_rule.proofs.Slots.{slot_here, slot_else}
+use Rattle.pp_base.specs.declared.source.Side.{Side}
+use Rattle.pp_base.specs.Sources.{side_number}
+use Rattle.pp_base.specs.Named.{NamedStep, loads}
+use Rattle.pp_base.proofs.Named.{plain_one}
+use Rattle.pp_trees.specs.declared.own.TreeOwn.{TreeOwn}
+use Rattle.pp_trees.specs.Trees.{side, IsEdge}
+use Rattle.pp_trees.specs.Searches.{TreePass}
+use Rattle.pp_trees.specs.Sentinels.{has_mark}
+use Rattle.pp_trees.specs.Edges.{TreeView}
+use Rattle.pp_trees.specs.Seeks.{Looks}
+use Rattle.pp_seek.specs.declared.seek.Spot.{Spot}
+use Rattle.pp_seek.specs.declared.turn.Next.{Next}
+use Rattle.pp_seek.specs.declared.turn.Down.{Down}
+use Rattle.pp_seek.specs.declared.turn.Down.TheVariants as downs
+use Rattle.pp_seek.specs.Trails.{Trail, IsEmpty, reads}
+use Rattle.pp_seek.specs.Keeping.{IsOf}
+use Rattle.pp_seek.specs.Seeking.{words_of, StandsIn, LetsAllGo, Near}
+use Rattle.pp_seek.specs.Seeking.{IsBroken, LostBy, found_invalid, found_other, outside, Loses}
+use Rattle.pp_seek.specs.Seeking.{SecondOther, KeyOutside, LosesThere, CameOn}
+use Rattle.pp_seek.specs.Seeking.{EndedAt, LookedDown}
+use Rattle.pp_seek.proofs.Staying.{learning_rest}
+use Rattle.pp_seek.proofs.Trailing.{trail_one, trail_both, in_first_part, in_second_part, in_that_one}
+use Rattle.pp_seek.proofs.Letting.{call_by, call_on}
+use Rattle.pp_seek.proofs.Going.{SameHeld, word_used, stands_on, learning_held, learning_own, learnt_tag, empty_same}
+use Rattle.pp_seek.proofs.Going.{go_after}
+
+-- the bits of a link's word
+pub tag_of : (l : Link) → tag_bit (word_of l) ≡ bit l.tag
+tag_of l = go l.number (bit l.leaf) (bit l.invalid) (bit l.tag) (bit l.flag) (low l.leaf) (low l.invalid) (low l.tag) (low l.flag)
+  where
+    low : (b : Bool) → bit b ≤ 1
+    low true = omega arith
+    low false = omega arith
+
+    go : (n l i t f : ℕ) → l ≤ 1 → i ≤ 1 → t ≤ 1 → f ≤ 1 → (16 * n + 8 * l + 4 * i + 2 * t + f) / 2 % 2 ≡ t
+    go n l i t f a b c d = omega arith
+
+held_then : (a b c : WalkSlot) → SameHeld a b → c ≡ b → SameHeld a c
+held_then a b c x e = record {
+  named = ap (λ (s : WalkSlot). s.named) e ∙ x.named;
+  held = ap (λ (s : WalkSlot). s.held) e ∙ x.held;
+  key = ap (λ (s : WalkSlot). s.key) e ∙ x.key;
+}
+
+-- the first load of an edge
+load_trail : (sd place first : ℕ) (v v1 : TreeView) → Looks sd place first v v1 → Trail v v1
+load_trail sd place first v v1 t = let r = learning_rest has_mark v.known.own.at sd first v.known in
+    trail_one (loads place first) v v1 (inl (omega arith, omega arith)) (plain_one (loads place first)
+    (learning has_mark v.known.own.at sd first v.known) v v1 r.number r.owned t.loaded.made)
+
+load_saw : (sd place first : ℕ) (v v1 : TreeView) (t : Looks sd place first v v1)
+    → IsIn (loads place first) (load_trail sd place first v v1 t).steps
+unfolding load_trail
+load_saw sd place first v v1 t = let r = learning_rest has_mark v.known.own.at sd first v.known in
+    in_that_one (loads place first) v v1 (inl (omega arith, omega arith)) (plain_one (loads place first)
+    (learning has_mark v.known.own.at sd first v.known) v v1 r.number r.owned t.loaded.made)
+
+load_own : (sd place first : ℕ) (v v1 : TreeView) → Looks sd place first v v1 → v1.known.own ≡ v.known.own
+load_own sd place first v v1 t = ap (λ (u : TreeView). u.known.own) t.loaded.made.is
+    ∙ learning_own v.known.own.at sd first v.known
+
+-- it found INVALID
+pub broken : (s : Spot) (sd place first : ℕ) (v v1 : TreeView) → Looks sd place first v v1 → invalid_bit first ≡ 1
+    → IsBroken s v v1
+broken s sd place first v v1 t bad = record {
+  own = load_own sd place first v v1 t;
+  loses = record {
+    trail = load_trail sd place first v v1 t;
+    cause = found_invalid place first
+        (load_saw sd place first v v1 t) bad;
+  };
+}
+
+-- it didn't, and the record that it leads to is announced
+pub near : (z : Sizes) (k : ℕ) (s : Spot) (sd : Side) (first : ℕ) (link : Link) (word number place : ℕ) (v v1 v2 : TreeView)
+    → StandsIn v.known s
+    → key_of v.known.own.call ≡ k → side_number sd ≡ side k s.key → length v.known.walk ≡ 5 → length v1.known.walk ≡ 5
+    → Looks (side_number sd) (cell_place z (slot v.known s.word).named (2 + side_number sd)) first v v1
+    → word_of link ≡ first → invalid_bit first ≡ 0
+    → word < 5 → (IsOf (words_of s) word → ⊥) → number ≡ target first
+    → MadeQuietStep announce_step place number number (with_walk word (naming number) v1.known) v1 v2
+    → Near z k s (record { side = sd; link = link; word = word }) v v2
+near z k s sd first link word number place v v1 v2 st call side_is five five1 t word_is valid low out number_is made = record {
+  near = record {
+    call_is = ap (λ (o : TreeOwn). key_of o.call) own ∙ call;
+    side_is = side_is;
+    stands = stands_on 5 word v.known v2.known s own (λ j lt is. same j lt (λ e. out (subst (IsOf (words_of s)) e is)))
+        (λ j lt never ne. empty_same (slot v.known j) (slot v2.known j) (same j lt ne) (st.empty j lt never
+        (λ e. let five_is = e in omega arith))) st;
+    low = low;
+    other = out;
+    named = ap (λ (x : WalkSlot). x.named) here ∙ (number_is ∙ sym (ap target word_is));
+    free = ap (λ (x : WalkSlot). x.held) here;
+    valid = ap invalid_bit word_is ∙ valid;
+    some = λ e. t.some (sym (ap target word_is) ∙ e);
+    unflagged = λ e. ap flag_bit word_is ∙ t.unflagged (subst (λ (w : ℕ). IsEdge w 0) word_is e);
+    below_root = λ one left. word_is ∙ t.below_root (ap (λ (j : ℕ). (slot v.known j).named) st.at ∙ (sym spot_same.named
+        ∙ one)) left;
+    learnt = λ tag. subst (λ (x : WalkSlot). IsIn {A = ℕ × ℕ} (side_number sd, word_of link) x.learnt) (sym (else_ s.word
+        (λ e. out (subst (IsOf (words_of s)) e (word_used s)))))
+        (subst (λ (w : ℕ). IsIn {A = ℕ × ℕ} (side_number sd, w) (slot v1.known s.word).learnt) (sym word_is)
+        (subst (λ (q : TreePass). IsIn {A = ℕ × ℕ} (side_number sd, first) (slot q s.word).learnt) (sym known1)
+        (subst (λ (j : ℕ). IsIn {A = ℕ × ℕ} (side_number sd, first) (slot (learning has_mark v.known.own.at
+        (side_number sd) first v.known) j).learnt) st.at
+        (learnt_tag v.known.own.at (side_number sd) first v.known five at_low
+        (ap (λ (j : ℕ). (slot v.known j).held) st.at ∙ st.held) (sym (ap tag_bit word_is) ∙ tag)))));
+  };
+  own = own;
+  trail = trail_both v v1 v2 loaded announced;
+  saw = subst (λ (n : ℕ). IsIn (loads (cell_place z n (2 + side_number sd)) (word_of link))
+      (trail_both v v1 v2 loaded announced).steps) (sym spot_same.named)
+      (subst (λ (w : ℕ). IsIn (loads (cell_place z (slot v.known s.word).named (2 + side_number sd)) w)
+      (trail_both v v1 v2 loaded announced).steps) (sym word_is)
+      (in_first_part v v1 v2 loaded announced (loads (cell_place z (slot v.known s.word).named (2 + side_number sd)) first)
+      (load_saw (side_number sd) (cell_place z (slot v.known s.word).named (2 + side_number sd)) first v v1 t)));
+}
+  where
+    loaded : Trail v v1
+    loaded = load_trail (side_number sd) (cell_place z (slot v.known s.word).named (2 + side_number sd)) first v v1 t
+
+    announced : Trail v1 v2
+    announced = trail_one (record { kind = announce_step; place = place; word = number }) v1 v2 (inl (omega arith, omega arith))
+        (plain_one (record { kind = announce_step; place = place; word = number }) (with_walk word
+        (naming number) v1.known) v1 v2 refl refl made)
+
+    at_low : v.known.own.at < 5
+    at_low = subst (λ (x : ℕ). x < 5) (sym st.at) st.low
+
+    known1 : v1.known ≡ learning has_mark v.known.own.at (side_number sd) first v.known
+    known1 = ap (λ (u : TreeView). u.known) t.loaded.made.is
+
+    known2 : v2.known ≡ with_walk word (naming number) v1.known
+    known2 = ap (λ (u : TreeView). u.known) made.is
+
+    own : v2.known.own ≡ v.known.own
+    own = ap (λ (q : TreePass). q.own) known2 ∙ load_own (side_number sd) (cell_place z (slot v.known s.word).named
+        (2 + side_number sd)) first v v1 t
+
+    here : slot v2.known word ≡ naming number
+    here = slot_here v1.known v2.known word (naming number) (ap (λ (q : TreePass). q.walk) known2) (omega arith)
+
+    else_ : (j : ℕ) → j ≢ word → slot v2.known j ≡ slot v1.known j
+    else_ j ne = slot_else v1.known v2.known word (naming number) (ap (λ (q : TreePass). q.walk) known2) j ne
+
+    same : (j : ℕ) → j < 5 → j ≢ word → SameHeld (slot v.known j) (slot v2.known j)
+    same j lt ne = held_then (slot v.known j) (slot v1.known j) (slot v2.known j)
+        (subst (λ (q : TreePass). SameHeld (slot v.known j) (slot q j)) (sym known1) (learning_held v.known.own.at
+        (side_number sd) first v.known j five at_low)) (else_ j ne)
+
+    spot_same : SameHeld (slot v.known s.word) (slot v2.known s.word)
+    spot_same = same s.word st.low (λ e. out (subst (IsOf (words_of s)) e (word_used s)))
+
+-- a cause is one of the longer trail too
+more_lost : (s : Spot) (d d' : NamedStep → Type 0) → ((x : NamedStep) → d x → d' x) → LostBy s d → LostBy s d'
+more_lost s d d' f (found_invalid place w saw bad) = found_invalid place w (f (loads place w) saw) bad
+more_lost s d d' f (found_other place kind first second a b ne) = found_other place kind first second (f
+    (loads place first) a) (f (record { kind = kind; place = place; word = second }) b) ne
+more_lost s d d' f (outside place key saw out) = outside place key (f (reads place key) saw) out
+
+-- a turn that was lost at its first load
+pub lost_first : (s : Spot) (v v1 v2 : TreeView) → IsBroken s v v1 → LetsAllGo v1 v2 → LetsAllGo v v2 × Loses s v v2
+lost_first s v v1 v2 b l = (
+  go_after v v1 v2 b.loses.trail (call_by v.known.own v1.known.own b.own) l,
+  record {
+    trail = trail_both v v1 v2 b.loses.trail l.trail;
+    cause = more_lost s (λ x. IsIn x b.loses.trail.steps) (λ x. IsIn x (trail_both v v1 v2 b.loses.trail l.trail).steps)
+        (λ x i. in_first_part v v1 v2 b.loses.trail l.trail x i) b.loses.cause;
+  },
+)
+
+-- a turn that was lost later
+lost_later : (z : Sizes) (k : ℕ) (s : Spot) (n : Next) (v v1 v2 : TreeView) → Near z k s n v v1 → LosesThere z s n v1 v2
+    → Loses s v v2
+lost_later z k s n v v1 v2 a l = record {
+  trail = trail_both v v1 v2 a.trail l.trail;
+  cause = ⊎_elim
+      (λ (o : SecondOther z s n v1 (λ step. IsIn step l.trail.steps)). found_other (cell_place z (slot v1.known s.word).named
+      (2 + side_number n.side)) o.kind (word_of n.link) o.second
+      (in_first_part v v1 v2 a.trail l.trail (loads (cell_place z (slot v1.known s.word).named (2 + side_number n.side))
+      (word_of n.link)) a.saw)
+      (in_second_part v v1 v2 a.trail l.trail (record {
+        kind = o.kind;
+        place = cell_place z (slot v1.known s.word).named
+            (2 + side_number n.side);
+        word = o.second;
+      }) o.saw) o.other)
+      (λ (o : KeyOutside s (λ step. IsIn step l.trail.steps)). outside o.place o.key (in_second_part v v1 v2 a.trail l.trail
+      (reads o.place o.key) o.saw) o.outside)
+      l.cause;
+}
+
+-- the second part of a turn after the first one
+pub down_inner : (z : Sizes) (k : ℕ) (s : Spot) (n : Next) (v v1 v2 : TreeView) (d : Down) → Near z k s n v v1
+    → CameOn z s n v1 v2 d → LookedDown z k s v v2 d
+down_inner z k s n v v1 v2 downs.Moved a c = (
+  record {
+    stands = c.0.stands;
+    own = c.0.own
+        ∙ a.own;
+  },
+  lost_later z k s n v v1 v2 a c.1,
+)
+down_inner z k s n v v1 v2 downs.Broken a c = (
+  go_after v v1 v2 a.trail
+      (call_by v.known.own v1.known.own a.own) c.0,
+  lost_later z k s n v v1 v2 a c.1,
+)
+down_inner z k s n v v1 v2 (downs.Came next) a c = record {
+  stands = c.stands;
+  same = call_on v.known.own v1.known.own v2.known.own (call_by v.known.own v1.known.own a.own) c.same;
+  between = c.between;
+  low_is = c.low_is ∙ ap (λ (o : TreeOwn). cond (nat_lt (key_of o.call) next.key) s.low (next.key + 1)) a.own;
+  high_is = c.high_is ∙ ap (λ (o : TreeOwn). cond (nat_lt (key_of o.call) next.key) next.key s.high) a.own;
+  narrows = c.narrows;
+  trail = trail_both v v1 v2 a.trail c.trail;
+}
+down_inner z k s n v v1 v2 (downs.Ended sought) a c = absurd c
+
+pub down_leaf : (z : Sizes) (k : ℕ) (s : Spot) (n : Next) (v v1 v2 : TreeView) (d : Down) → Near z k s n v v1
+    → EndedAt z k s n v1 v2 d → LookedDown z k s v v2 d
+down_leaf z k s n v v1 v2 downs.Moved a c = (
+  record {
+    stands = c.0.stands;
+    own = c.0.own
+        ∙ a.own;
+  },
+  lost_later z k s n v v1 v2 a c.1,
+)
+down_leaf z k s n v v1 v2 downs.Broken a c = (
+  go_after v v1 v2 a.trail
+      (call_by v.known.own v1.known.own a.own) c.0,
+  lost_later z k s n v v1 v2 a c.1,
+)
+down_leaf z k s n v v1 v2 (downs.Came next) a c = absurd c
+down_leaf z k s n v v1 v2 (downs.Ended sought) a c = record {
+  is = c.is;
+  last = c.last;
+  ended = c.ended;
+  until = trail_both v v1 c.last a.trail c.until;
+  own = c.own ∙ a.own;
+  value = c.value;
+  ends = c.ends;
+  value_is = c.value_is;
+  then = c.then;
+  still = c.still;
+}
+
+-- a walk word that isn't in use is empty after the first load too
+pub still_empty : (s : Spot) (sd place first : ℕ) (v v1 : TreeView) → StandsIn v.known s → length v.known.walk ≡ 5
+    → Looks sd place first v v1
+    → (j : ℕ) → j < 5 → (IsOf (words_of s) j → ⊥) → IsEmpty (slot v1.known j)
+still_empty s sd place first v v1 st five t j low out = empty_same (slot v.known j) (slot v1.known j)
+    (subst (λ (q : TreePass). SameHeld (slot v.known j) (slot q j)) (sym (ap (λ (u : TreeView). u.known) t.loaded.made.is))
+    (learning_held v.known.own.at sd first v.known j five (subst (λ (x : ℕ). x < 5) (sym st.at) st.low)))
+    (st.empty j low out (λ e. let five_is = e in omega arith))

@@ -1,0 +1,32 @@
+use Rattle.std.proofs.Common.{sym, ap, ◌∙◌, subst}
+use Rattle.pp_link.specs.Links.{bit}
+use Rattle.pp_base.specs.Passes.{view}
+use Rattle.pp_seek.specs.declared.keeping.Words.{Words}
+use Rattle.pp_seek.specs.Keeping.{IsOf}
+use Rattle.pp_seek.proofs.Coming.{broken, near, still_empty}
+use Rattle.pp_seek.proofs.turn.approach.Goals as goal
+
+pub returns-then-invalid-clause-approaches : goal.returns-then-invalid-clause-approaches
+returns-then-invalid-clause-approaches c = broken c.args.spot _ _ c.look-first.result (view c.args.pass.now.seat)
+    (view c.look-first.new.pass.seat)
+    c.look-first.ensures.looks (sym c.unpacked-link.ensures.invalid ∙ ap bit (sym c.invalid.ensures ∙ c.if-invalid.true))
+
+pub announce-requires-clause-free : goal.announce-requires-clause-free
+announce-requires-clause-free c = (still_empty c.args.spot _ _ c.look-first.result (view c.args.pass.now.seat)
+    (view c.look-first.new.pass.seat)
+    c.requires.stands c.args.pass.now.keeping.pass.five c.look-first.ensures.looks c.other_than-word.result
+    c.other_than-word.ensures.low
+    (subst (λ (w : Words). IsOf w c.other_than-word.result → ⊥) c.words.ensures c.other_than-word.ensures.other)).free
+
+pub returns-clause-approaches : goal.returns-clause-approaches
+returns-clause-approaches c = near c.args.pool.now.layout c.args.key c.args.spot c.side_of-side.result c.look-first.result
+    c.unpacked-link.result
+    c.other_than-word.result c.number.result _ (view c.args.pass.now.seat) (view c.look-first.new.pass.seat)
+    (view c.announce.new.pass.seat)
+    c.requires.stands c.requires.call c.side_of-side.ensures c.args.pass.now.keeping.pass.five
+    c.look-first.new.pass.keeping.pass.five
+    c.look-first.ensures.looks c.unpacked-link.ensures.word (sym c.unpacked-link.ensures.invalid
+    ∙ ap bit (sym c.invalid.ensures ∙ c.if-invalid.false))
+    c.other_than-word.ensures.low (subst (λ (w : Words). IsOf w c.other_than-word.result
+    → ⊥) c.words.ensures c.other_than-word.ensures.other)
+    (c.number.ensures ∙ c.unpacked-link.ensures.number) c.announce.ensures.made

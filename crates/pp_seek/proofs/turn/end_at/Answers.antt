@@ -1,0 +1,25 @@
+use Rattle.std.proofs.Common.{refl, sym, ◌∙◌}
+use Rattle.std.specs.Prelude.{nat_eq}
+use Rattle.pp_base.specs.Passes.{view}
+use Rattle.pp_seek.proofs.Ending.{ended_back, ended_held, ends_there}
+use Rattle.pp_seek.proofs.turn.end_at.Goals as goal
+
+pub returns-then-second-first-clause-ended : goal.returns-then-second-first-clause-ended
+returns-then-second-first-clause-ended c = ended_back c.args.pool.now.layout c.args.key c.args.spot c.args.next
+    c.end-second.result (view c.args.pass.now.seat)
+    (view c.end-second.new.pass.seat) (view c.lose.new.pass.seat) (c.end-second.ensures.ends.other c.if-second-first.true)
+    (λ e. c.if-second-first.true (e ∙ sym c.word-first.ensures.word)) c.lose.result c.lose.ensures.lost
+
+pub read-here-requires-clause-held : goal.read-here-requires-clause-held
+read-here-requires-clause-held c = let pass = c.args.pass.now in let t = c.end-second.ensures.ends.same c.if-second-first.false in
+    ended_held c.args.next.word _ _ _ t.0 t.1.0 (view pass.seat)
+    (view c.end-second.new.pass.seat) c.requires.near.low pass.keeping.pass.five t.1.1
+
+pub returns-clause-ended : goal.returns-clause-ended
+returns-clause-ended c = let pass = c.args.pass.now in let t = c.end-second.ensures.ends.same c.if-second-first.false in
+    ends_there c.args.pool.now.layout c.args.key c.args.spot c.in-Some.above c.args.next c.word-first.result t.0
+    c.read-here.result _ t.1.0
+    (nat_eq c.read-here.result c.args.key) (view pass.seat) (view c.end-second.new.pass.seat)
+    (view c.read-here.new.pass.seat) c.requires.near c.in-Some.is
+    pass.keeping.pass.five c.word-first.ensures.word c.requires.leaf t.1.1 c.read-here.ensures.read.made
+    (c.read-here.ensures.read.key refl) refl

@@ -1,0 +1,28 @@
+use Rattle.std.proofs.Common.{Option, subst}
+use Rattle.pp_base.specs.Passes.{view}
+use Rattle.pp_seek.specs.declared.turn.Next.{Next}
+use Rattle.pp_seek.specs.Seeking.{Approaches}
+use Rattle.pp_seek.proofs.Going.{lets_go, none_of}
+use Rattle.pp_seek.proofs.Coming.{lost_first, down_inner, down_leaf}
+use Rattle.pp_seek.proofs.turn.go_down.Goals as goal
+
+pub returns-in_default-clause-looked : goal.returns-in_default-clause-looked
+returns-in_default-clause-looked c = let v = view c.args.pass.now.seat in let v1 = view c.approach.new.pass.seat in
+    lost_first c.args.spot v v1 (view c.keep_only.new.pass.seat)
+    (subst (λ (r : Option Next). Approaches c.args.pool.now.layout c.args.key c.args.spot v v1 r) c.in_default.is
+    c.approach.ensures.approaches)
+    (lets_go _ v1 (view c.keep_only.new.pass.seat) none_of c.keep_only.ensures.keeps)
+
+pub returns-then-leaf-clause-looked : goal.returns-then-leaf-clause-looked
+returns-then-leaf-clause-looked c = let v = view c.args.pass.now.seat in let v1 = view c.approach.new.pass.seat in
+    down_leaf c.args.pool.now.layout c.args.key c.args.spot c.in-Some.next v v1 (view c.end_at.new.pass.seat) c.end_at.result
+    (subst (λ (r : Option Next). Approaches c.args.pool.now.layout c.args.key c.args.spot v v1 r) c.in-Some.is
+    c.approach.ensures.approaches)
+    c.end_at.ensures.ended
+
+pub returns-clause-looked : goal.returns-clause-looked
+returns-clause-looked c = let v = view c.args.pass.now.seat in let v1 = view c.approach.new.pass.seat in
+    down_inner c.args.pool.now.layout c.args.key c.args.spot c.in-Some.next v v1 (view c.come_on.new.pass.seat) c.come_on.result
+    (subst (λ (r : Option Next). Approaches c.args.pool.now.layout c.args.key c.args.spot v v1 r) c.in-Some.is
+    c.approach.ensures.approaches)
+    c.come_on.ensures.came

@@ -1,0 +1,7 @@
+//! A pool of a tree is opened and closed.
+#![tactic(auto)]
+
+#[cfg(test)]
+mod staging;
+#[cfg(test)]
+mod tests;
