@@ -24,7 +24,7 @@ use Rattle.pp_queues.specs.declared.calls.QueueReply.{QueueReply}
 use Rattle.pp_queues.specs.declared.calls.QueueReply.TheVariants as said
 use Rattle.pp_queues.specs.declared.calls.QueueChange.{QueueChange}
 use Rattle.pp_queues.specs.declared.calls.QueuePlaced.{QueuePlaced}
-use Rattle.pp_queues.specs.Objects.{after}
+use Rattle.pp_model.specs.Objects.{after}
 use Rattle.pp_queues.specs.Queue.{queue, reply, changes, placed}
 use Rattle.pp_queues.specs.Queues.{QueuePass, QueueView, HasOwn}
 use Rattle.pp_queues.specs.Turns.{StandsThen}
@@ -33,7 +33,7 @@ use Rattle.pp_queues.specs.Calls.{QueuePassView, queue_view, steps_since, start_
 use Rattle.pp_queues.specs.Calls.{Grew, Stands, PlacesReply}
 use Rattle.pp_queues.specs.Calls.{Tidied, spends}
 use Rattle.pp_queues.proofs.Counting.{tally_lost, tally_early}
-use Rattle.pp_queues.proofs.Histories.{after_grown}
+use Rattle.pp_model.proofs.Logs.{after_grown}
 use Rattle.pp_queue.specs.Answers.{Tidies}
 use Rattle.pp_queue.proofs.Reclaiming.{since_made}
 

@@ -28,7 +28,7 @@ use Rattle.pp_queues.specs.declared.calls.QueueCall.{QueueCall}
 use Rattle.pp_queues.specs.declared.calls.QueueCall.TheVariants as call
 use Rattle.pp_queues.specs.declared.calls.QueueReply.TheVariants as said
 use Rattle.pp_queues.specs.declared.calls.QueuePlaced.{QueuePlaced}
-use Rattle.pp_queues.specs.Objects.{after}
+use Rattle.pp_model.specs.Objects.{after}
 use Rattle.pp_queues.specs.Contents.{queue_caller}
 use Rattle.pp_queues.specs.Queue.{queue, reply, placed}
 use Rattle.pp_queues.specs.Queues.{QueuePass, QueueView, HasOwn, queue_head, queue_field}

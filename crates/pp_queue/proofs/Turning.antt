@@ -17,11 +17,11 @@ use Rattle.pp_queues.specs.declared.calls.QueueChange.{QueueChange}
 use Rattle.pp_queues.specs.declared.calls.QueuePlaced.{QueuePlaced}
 use Rattle.pp_queues.specs.declared.calls.QueueCall.TheVariants as call
 use Rattle.pp_queues.specs.declared.calls.QueueReply.TheVariants as said
-use Rattle.pp_queues.specs.Objects.{after}
+use Rattle.pp_model.specs.Objects.{after}
 use Rattle.pp_queues.specs.Queue.{queue, reply, placed}
 use Rattle.pp_queues.specs.Queues.{QueuePass, QueueView}
 use Rattle.pp_queues.specs.Turns.{stand, Saw, Tried, Settled, Advanced}
-use Rattle.pp_queues.proofs.Histories.{after_grown}
+use Rattle.pp_model.proofs.Logs.{after_grown}
 use Rattle.pp_queue.specs.Calling.{SameRest, GoesOn, GoesFree, TookOff, WentOn, SaidEmpty}
 use Rattle.pp_queue.proofs.Going.{rest_self, goes_made, goes_on}
 

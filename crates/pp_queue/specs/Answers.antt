@@ -11,7 +11,7 @@ use Rattle.pp_base.specs.declared.purse.Purse.{Purse}
 use Rattle.pp_pool.specs.Taken.{IsPrivate, IsPublished}
 use Rattle.pp_queues.specs.declared.calls.QueueCall.TheVariants as call
 use Rattle.pp_queues.specs.declared.calls.QueueReply.TheVariants as said
-use Rattle.pp_queues.specs.Objects.{after}
+use Rattle.pp_model.specs.Objects.{after}
 use Rattle.pp_queues.specs.Queue.{queue, reply, placed}
 use Rattle.pp_queues.specs.Queues.{QueuePass, QueueView}
 use Rattle.pp_shelf.specs.Runs.{steps_made}

@@ -22,7 +22,7 @@ use Rattle.pp_queues.specs.declared.calls.QueueReply.TheVariants as said
 use Rattle.pp_queues.specs.declared.calls.QueuePlaced.{QueuePlaced}
 use Rattle.pp_queue.specs.declared.calling.TakeTurn.{TakeTurn}
 use Rattle.pp_queue.specs.declared.calling.TakeTurn.TheVariants as turn
-use Rattle.pp_queues.specs.Objects.{after}
+use Rattle.pp_model.specs.Objects.{after}
 use Rattle.pp_queues.specs.Queue.{queue, reply, placed}
 use Rattle.pp_queues.specs.Queues.{QueuePass, QueueView}
 use Rattle.pp_queues.specs.Turns.{stand, put_step, advance_step}

@@ -28,7 +28,7 @@ use Rattle.pp_queues.specs.declared.own.QueueOwn.{QueueOwn}
 use Rattle.pp_queues.specs.Queue.{queue, items_of, IsSound, StandsIn}
 use Rattle.pp_queues.specs.Lines.{Heap, heap, Lined, Stood, Steady, Alike}
 use Rattle.pp_queues.specs.Queues.{QueuePass, QueueState, QueueStep, Calls, Queues, IsOwnStep, queue_forget}
-use Rattle.pp_queues.proofs.Histories.{stands_grown}
+use Rattle.pp_model.proofs.Logs.{stands_grown}
 use Rattle.pp_queues.proofs.Lining.{is_used, lined_alike, steady_alike}
 
 module _ {E A W : Type 0} (z : Sizes) (words words' : List ℕ) (g g' : PoolState E A W) where

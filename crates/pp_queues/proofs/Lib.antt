@@ -1,4 +1,3 @@
-pub mod Histories
 pub mod Lining
 pub mod Keeping
 pub mod Laws
@@ -9,6 +8,5 @@ pub mod Putting
 pub mod Owning
 pub mod Taking
 pub mod Closing
-pub mod Mapped
 pub mod Remaining
 pub mod Counting

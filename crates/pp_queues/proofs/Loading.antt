@@ -34,14 +34,14 @@ use Rattle.pp_queues.specs.declared.calls.QueueReply.{QueueReply}
 use Rattle.pp_queues.specs.declared.calls.QueueChange.{QueueChange}
 use Rattle.pp_queues.specs.declared.calls.QueuePlaced.{QueuePlaced}
 use Rattle.pp_queues.specs.declared.own.QueueOwn.{QueueOwn}
-use Rattle.pp_queues.specs.Objects.{after}
+use Rattle.pp_model.specs.Objects.{after}
 use Rattle.pp_queues.specs.Queue.{queue, reply, placed, items_of, IsSound, StandsIn}
 use Rattle.pp_queues.specs.Lines.{Heap, heap, Lined, Stood}
 use Rattle.pp_queues.specs.Queues.{QueuePass, QueueState, QueueStep, QueueView, Calls, Queues}
 use Rattle.pp_queues.specs.Turns.{StandsThen, empty_step, with_own, stand, beginning, resting, leading, passed, IsLoaded}
 use Rattle.pp_queues.specs.Turns.{IsEnd, Begins, Ends, end_number, standing, Came}
 use Rattle.pp_queues.specs.Turns.{Saw, Looked, Settled, Tried}
-use Rattle.pp_queues.proofs.Histories.{fits_within, stands_unchanged, after_all}
+use Rattle.pp_model.proofs.Logs.{fits_within, stands_unchanged, after_all}
 use Rattle.pp_queues.proofs.Lining.{not_before_own, none_behind, nowhere_plain, leads_to}
 use Rattle.pp_queues.proofs.Keeping.{own_more, own_none, stood_nowhere, queues_alike}
 use Rattle.pp_queues.proofs.Telling.{log_quiet}

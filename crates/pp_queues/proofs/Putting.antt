@@ -42,7 +42,7 @@ use Rattle.pp_queues.specs.Queue.{queue, items_of, IsSound, StandsIn, change_of,
 use Rattle.pp_queues.specs.Lines.{Heap, heap, Lined, Stood, Steady, Appended}
 use Rattle.pp_queues.specs.Queues.{QueuePass, QueueState, QueueStep, QueueView, Calls, Queues}
 use Rattle.pp_queues.specs.Turns.{StandsThen, put_step, stand, change_at, placed_at, MayLink, linked, Linked}
-use Rattle.pp_queues.proofs.Histories.{stands_change, sound_change, contents_push}
+use Rattle.pp_model.proofs.Logs.{stands_change, sound_change, contents_push}
 use Rattle.pp_queues.proofs.Lining.{at_more, lined_appended, steady_appended, n_attached, leads_to}
 use Rattle.pp_queues.proofs.Keeping.{queues_changed}
 use Rattle.pp_queues.proofs.Loading.{alike, calls_of, held_of, link_at}

@@ -21,7 +21,7 @@ use Rattle.pp_queues.specs.declared.calls.QueueChange.{QueueChange}
 use Rattle.pp_queues.specs.declared.calls.QueuePlaced.{QueuePlaced}
 use Rattle.pp_queues.specs.Queue.{queue, StandsIn}
 use Rattle.pp_queues.specs.Queues.{QueuePass, QueueStep, QueueView, HasOwn}
-use Rattle.pp_queues.proofs.Histories.{stands_grown}
+use Rattle.pp_model.proofs.Logs.{stands_grown}
 
 each_both : (P : QueueChange → Type 0) (xs ys : List QueueChange) → AtEach xs (λ _ x. P x) → AtEach ys (λ _ x. P x)
     → AtEach (xs ++ ys) (λ _ x. P x)

@@ -40,7 +40,7 @@ use Rattle.pp_queues.specs.Queue.{queue, items_of, IsSound, StandsIn, change_of,
 use Rattle.pp_queues.specs.Lines.{Heap, heap, Lined, Stood, Steady, Removed}
 use Rattle.pp_queues.specs.Queues.{QueuePass, QueueState, QueueStep, QueueView, Calls, Queues, dummy_chain}
 use Rattle.pp_queues.specs.Turns.{StandsThen, take_step, stand, resting, change_at, placed_at, MayTake, taken, Took}
-use Rattle.pp_queues.proofs.Histories.{stands_change, sound_change, contents_push}
+use Rattle.pp_model.proofs.Logs.{stands_change, sound_change, contents_push}
 use Rattle.pp_queues.proofs.Lining.{is_used, some_value, was_dummy, was_next, first_value, lined_removed, steady_removed}
 use Rattle.pp_queues.proofs.Lining.{leads_to, times_once}
 use Rattle.pp_queues.proofs.Keeping.{queues_changed}

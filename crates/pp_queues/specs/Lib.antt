@@ -1,4 +1,3 @@
-pub mod Objects
 pub mod Queue
 pub mod Lines
 pub mod Queues

@@ -20,7 +20,7 @@ use Rattle.pp_queues.specs.declared.calls.QueueReply.TheVariants as said
 use Rattle.pp_queues.specs.declared.calls.QueueChange.{QueueChange}
 use Rattle.pp_queues.specs.declared.calls.QueuePlaced.{QueuePlaced}
 use Rattle.pp_queues.specs.declared.own.QueueOwn.{QueueOwn}
-use Rattle.pp_queues.specs.Objects.{after}
+use Rattle.pp_model.specs.Objects.{after}
 use Rattle.pp_queues.specs.Queue.{queue, reply, change_of, placed, StandsIn}
 use Rattle.pp_queues.specs.Queues.{QueuePass, QueueView, dummy_chain}
 
