@@ -14,7 +14,8 @@ use Rattle.pp_words.specs.Words.{settings_of}
 use Rattle.pp_replay.specs.declared.ending.Way.{Way}
 use Rattle.pp_replay.specs.declared.ending.Way.TheVariants as way
 use Rattle.pp_replay.specs.Printed.{IsPrinted, AreShort}
-use Rattle.pp_replay.specs.Replay.{Device, World, world, output, Cause, HasCalls, HadNoMemory, IsBuilt, IsReplay, IsRunUnder}
+use Rattle.pp_devices.specs.Devices.{Device, World, world}
+use Rattle.pp_replay.specs.Replay.{output, Cause, HasCalls, HadNoMemory, IsBuilt, IsReplay, IsRunUnder}
 use Rattle.pp_replay.specs.Parts.{IsFinished, IsWayOf, WasSpared}
 
 -- lists that are short have few elements in all

@@ -8,7 +8,8 @@ use Rattle.pp_trace.specs.Grammar.{bad}
 use Rattle.pp_trace.specs.Text.{count_all, is_full, is_lost}
 use Rattle.pp_replay.specs.declared.ending.Way.{Way}
 use Rattle.pp_replay.specs.declared.ending.Way.TheVariants as way
-use Rattle.pp_replay.specs.Replay.{Device, HasBadLine, WasUnread, WasTooLong}
+use Rattle.pp_devices.specs.Devices.{Device, WasUnread, WasTooLong}
+use Rattle.pp_replay.specs.Replay.{HasBadLine}
 
 -- no read failed, and with a made trace nothing was read
 pub record WasSpared (make : Option Make) (before after : Device) : Type 0 where

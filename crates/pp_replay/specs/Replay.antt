@@ -1,9 +1,9 @@
 -- What the ending of a replay means.
-use Rattle.std.specs.Prelude.{◌≡◌, ℕ, ◌+◌, ◌*◌, ◌-◌, ◌/◌, ◌%◌, ◌≤◌, ◌<◌, ◌⊎◌, cond, nat_lt, List, [], ◌++◌, length, Option, Some, None, Result, codes}
+use Rattle.std.specs.Prelude.{◌≡◌, ℕ, ◌+◌, ◌*◌, ◌-◌, ◌/◌, ◌%◌, ◌≤◌, ◌<◌, ◌⊎◌, cond, nat_lt, List, [], ◌++◌, length, Option, Some, None, codes}
 use Rattle.std.specs.Io.KnownBytes.{Appends}
 use Rattle.std.specs.Fmt.{decimal}
-use Rattle.pp_outside.specs.Outside.{Rose, WasAll, GaveMore, GaveAtMost, GrewByPrefix, WroteOn, WroteToFault, OffersAll}
-use Rattle.pp_outside.specs.declared.Failed.{Failed}
+use Rattle.pp_outside.specs.Outside.{Rose, WasAll, GrewByPrefix}
+use Rattle.pp_devices.specs.Devices.{Device, World, WasUnread, WasTooLong, Untouched}
 use Rattle.pp_model.specs.declared.Call.{Call}
 use Rattle.pp_model.specs.declared.Answer.{Answer}
 use Rattle.pp_model.specs.declared.Pair.{Pair}
@@ -31,22 +31,6 @@ pub record EndingView : Type 0 where
   pub status : ℕ
   pub answers : List (List Answer)
   pub run : Option RunView
-
--- a source or a sink: the bytes that it tells, those left or those written, and its count of faults
-pub record Device : Type 0 where
-  pub bytes : Option (List ℕ)
-  pub faults : ℕ
-
--- the source and the sink
-pub record World : Type 0 where
-  pub source : Device
-  pub sink : Device
-
-abbrev pub device : Option (List ℕ) → ℕ → Device
-device bytes faults = record { bytes = bytes; faults = faults }
-
-abbrev pub world : Device → Device → World
-world source sink = record { source = source; sink = sink }
 
 -- ---- the chosen map
 
@@ -170,21 +154,6 @@ pub record HasBadLine (callers line : ℕ) (why : Why) (before after : Device) :
   pub within : length bytes ≤ 16777216
   pub first : bad bytes callers ≡ Some (record { line = line; why = why })
 
--- the source failed, having given no more than may be read
-pub record WasUnread (before after : Device) : Type 0 where
-  pub rose : Rose before.faults after.faults
-  pub few : GaveAtMost 16777216 before.bytes after.bytes
-
--- the source gave more than may be read, and no read failed before
-pub record WasTooLong (before after : Device) : Type 0 where
-  pub gave : GaveMore 16777216 before.bytes after.bytes
-  pub unfailed : after.faults ≡ before.faults
-
--- nothing was read or written
-pub record Untouched (before after : World) : Type 0 where
-  pub source : after.source ≡ before.source
-  pub sink : after.sink ≡ before.sink
-
 -- the words say settings whose map isn't built
 pub record IsNotBuilt (words : List (List ℕ)) (before after : World) : Type 0 where
   pub settings : Settings
@@ -237,26 +206,6 @@ line_of way.NoMemory = codes "memory: refused\n"
 line_of (way.Partly full lost) = codes "answers: " ++ decimal full ++ codes " full, " ++ decimal lost ++ codes " lost\n"
 line_of way.TooLong = codes "trace: longer than 16777216 bytes\n"
 line_of way.NotBuilt = codes "map: not built\n"
-
--- a line was told whole, by writes that all succeeded and that each offered all that was left of it
-pub record IsToldWhole {E : Type 0} (written : E → Option (List ℕ)) (faults : E → ℕ) (Writes : E → E → List ℕ → Result ℕ Failed → Type 0)
-    (old new : E) (line : List ℕ) : Type 0 where
-  pub written_is : Appends (written old) (written new) line
-  pub kept : faults new ≡ faults old
-  pub writes : WroteOn Writes OffersAll old line new []
-
--- a prefix of a line was told, up to the first write that failed, which ended its writing
-pub record IsToldPart {E : Type 0} (written : E → Option (List ℕ)) (faults : E → ℕ) (Writes : E → E → List ℕ → Result ℕ Failed → Type 0)
-    (old new : E) (line : List ℕ) : Type 0 where
-  pub written_is : GrewByPrefix (written old) (written new) line
-  pub rose : Rose (faults old) (faults new)
-  pub rest : List ℕ
-  pub writes : WroteToFault Writes OffersAll old line new rest
-
--- the line was told, or a failure cut it off
-abbrev pub IsTold : {E : Type 0} → (E → Option (List ℕ)) → (E → ℕ) → (E → E → List ℕ → Result ℕ Failed → Type 0) → E → E → List ℕ → Type 0
-IsTold written faults Writes old new line =
-    IsToldWhole written faults Writes old new line ⊎ IsToldPart written faults Writes old new line
 
 -- The ending of a replay: it ended in one way, by its cause, with its status, and its line was told.
 pub record IsEnding (words : List (List ℕ)) (before after : World) (Told : List ℕ → Type 0) (ending : EndingView) : Type 0 where

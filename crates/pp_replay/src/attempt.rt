@@ -7,7 +7,8 @@ ghost use Rattle.pp_words.specs.Words.{settings_of, InRange};
 ghost use Rattle.pp_replay.specs.declared.ending.Kept.TheVariants as Kept;
 ghost use Rattle.pp_replay.specs.Jobs.{AreCalls};
 ghost use Rattle.pp_replay.specs.View.{kept_run};
-ghost use Rattle.pp_replay.specs.Replay.{Cause, HasCalls, Device, device, world};
+ghost use Rattle.pp_devices.specs.Devices.{Device, device, world};
+ghost use Rattle.pp_replay.specs.Replay.{Cause, HasCalls};
 
 use crate::calls::take_calls;
 use crate::printing::finish;

@@ -5,7 +5,8 @@ ghost use Rattle.pp_trace.specs.MadeTrace.{IsMade};
 ghost use Rattle.pp_trace.specs.TraceLists.{IsTrace};
 ghost use Rattle.pp_replay.specs.declared.ending.Way.TheVariants as Way;
 ghost use Rattle.pp_words.specs.Words.{MakeFits};
-ghost use Rattle.pp_replay.specs.Replay.{HasCalls, WasRead, device};
+ghost use Rattle.pp_devices.specs.Devices.{device};
+ghost use Rattle.pp_replay.specs.Replay.{HasCalls, WasRead};
 ghost use Rattle.pp_replay.specs.Parts.{HasNoCalls, HasBadTrace};
 
 use crate::Way;

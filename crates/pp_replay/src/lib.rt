@@ -2,7 +2,9 @@
 #![tactic(auto)]
 
 ghost use Rattle.std.specs.Prelude.{◌≡◌, map, string_bytes};
-ghost use Rattle.pp_replay.specs.Replay.{IsEnding, IsTold, IsGood, IsAnswered, world, device};
+ghost use Rattle.pp_devices.specs.Devices.{world, device};
+ghost use Rattle.pp_devices.specs.Told.{IsTold};
+ghost use Rattle.pp_replay.specs.Replay.{IsEnding, IsGood, IsAnswered};
 
 mod attempt;
 mod calls;

@@ -3,7 +3,8 @@
 ghost use Rattle.std.specs.Prelude.{◌≡◌, ◌^◌, ◌<◌, ◌≤◌, map, length, false, []};
 ghost use Rattle.pp_trace.specs.Printing.{Puts};
 ghost use Rattle.pp_trace.specs.Text.{callers_text, caller_text, counts_of, out};
-ghost use Rattle.pp_replay.specs.Replay.{output, device};
+ghost use Rattle.pp_devices.specs.Devices.{device};
+ghost use Rattle.pp_replay.specs.Replay.{output};
 ghost use Rattle.pp_replay.specs.Printed.{IsPrinted, AreShort};
 ghost use Rattle.pp_replay.specs.Parts.{IsFinished, IsWayOf};
 

@@ -4,11 +4,13 @@ ghost use Rattle.std.specs.Prelude.{◌≡◌, ◌+◌, ◌≤◌, ◌<◌, List
 ghost use Rattle.std.specs.Fmt.{decimal};
 ghost use Rattle.arrayvec.specs.ArrayString.{array_string_len};
 ghost use Rattle.pp_trace.specs.Text.{why_text};
-ghost use Rattle.pp_replay.specs.Replay.{IsTold, line_of};
+ghost use Rattle.pp_devices.specs.Told.{IsTold};
+ghost use Rattle.pp_replay.specs.Replay.{line_of};
 
 use crate::Way;
 use arrayvec::ArrayString;
 use itoa::Buffer;
+use pp_devices::tell_line;
 use pp_outside::Sink;
 use pp_trace::Why;
 
@@ -21,13 +23,7 @@ pub fn tell<E: Sink>(errs: &mut E, way: Way)
     ensures { IsTold E.written E.faults E.Writes errs.old errs.new (line_of way) }
 {
     let line = line_text(way);
-    let mut rest = line.as_str().as_bytes();
-    while !rest.is_empty() {
-        match errs.write(rest) {
-            Ok(count) => rest = &rest[count..],
-            Err(_) => return,
-        }
-    }
+    tell_line(errs, line.as_str().as_bytes());
 }
 
 fn line_text(way: Way) -> ArrayString<LINE>

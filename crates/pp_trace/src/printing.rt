@@ -135,8 +135,12 @@ impl Printer {
         Ok(())
     }
 
-    // Puts the text behind what waits, and makes room by a write wherever the buffer is full.
-    fn put<K: Sink>(&mut self, sink: &mut K, text: &[u8]) -> Result<(), Failed>
+    /// Prints this text: puts it behind what waits, and makes room by a write wherever the buffer is full.
+    ///
+    /// # Errors
+    ///
+    /// `Failed` comes with the first write that fails; what was written and what waits is a front of the text.
+    pub fn put<K: Sink>(&mut self, sink: &mut K, text: &[u8]) -> Result<(), Failed>
         requires whole { self.old.failed ≡ false }
         ensures { Puts K.written K.faults K.Writes sink.old sink.new self.old self.new text.now result }
     {

@@ -7,7 +7,7 @@ use Rattle.std.specs.Io.KnownBytes.{Appends, Keeps}
 use Rattle.std.proofs.KnownBytes.{Appends-nil, Appends-trans, Appends-kept}
 use Rattle.pp_outside.specs.declared.Failed.{Failed}
 use Rattle.pp_outside.specs.Outside.{Rose, HasCause, WroteOn, no_write, next_write, WroteToFault, OffersAll}
-use Rattle.pp_replay.specs.Replay.{IsTold}
+use Rattle.pp_devices.specs.Told.{IsTold}
 
 module _ {E : Type 0} (written : E → Option (List ℕ)) (faults : E → ℕ) (Writes : E → E → List ℕ → Result ℕ Failed → Type 0) where
   -- the front of the line was taken, and this is the rest; no write failed
