@@ -1,8 +1,9 @@
 //! Replays a trace of map calls, from standard input to standard output.
 #![tactic(auto)]
 
+use pp_devices::{Way, tell};
 use pp_outside::{NoGate, StdSink, StdSource};
-use pp_replay::{Way, replay, tell};
+use pp_replay::replay;
 use std::process::ExitCode;
 use std::{env, io};
 

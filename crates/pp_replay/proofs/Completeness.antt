@@ -10,10 +10,11 @@ use Rattle.pp_trace.specs.declared.Why.{Why}
 use Rattle.pp_trace.specs.Grammar.{bad}
 use Rattle.pp_words.specs.declared.Settings.{Settings}
 use Rattle.pp_words.specs.Words.{settings_of}
-use Rattle.pp_replay.specs.declared.ending.Way.{Way}
-use Rattle.pp_replay.specs.declared.ending.Way.TheVariants as way
+use Rattle.pp_devices.specs.declared.ways.Way.{Way}
+use Rattle.pp_devices.specs.declared.ways.Way.TheVariants as way
 use Rattle.pp_devices.specs.Devices.{World}
-use Rattle.pp_replay.specs.Replay.{Cause, HasBadLine, IsGood, IsAnswered, status_of}
+use Rattle.pp_devices.specs.Ways.{status_of}
+use Rattle.pp_replay.specs.Replay.{Cause, HasBadLine, IsGood, IsAnswered}
 
 -- a source that tells its bytes gave these
 gave_all : (old new : Option (List ℕ)) (own bytes : List ℕ) → old ≡ Some own → WasAll old new bytes → own ≡ bytes

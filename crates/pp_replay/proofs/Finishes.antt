@@ -11,8 +11,8 @@ use Rattle.pp_trace.specs.declared.Make.{Make}
 use Rattle.pp_trace.specs.Text.{count_all, is_full, is_lost}
 use Rattle.pp_words.specs.declared.Settings.{Settings}
 use Rattle.pp_words.specs.Words.{settings_of}
-use Rattle.pp_replay.specs.declared.ending.Way.{Way}
-use Rattle.pp_replay.specs.declared.ending.Way.TheVariants as way
+use Rattle.pp_devices.specs.declared.ways.Way.{Way}
+use Rattle.pp_devices.specs.declared.ways.Way.TheVariants as way
 use Rattle.pp_replay.specs.Printed.{IsPrinted, AreShort}
 use Rattle.pp_devices.specs.Devices.{Device, World, world}
 use Rattle.pp_replay.specs.Replay.{output, Cause, HasCalls, HadNoMemory, IsBuilt, IsReplay, IsRunUnder}

@@ -6,8 +6,8 @@ use Rattle.pp_model.specs.declared.Answer.{Answer}
 use Rattle.pp_trace.specs.declared.Make.{Make}
 use Rattle.pp_trace.specs.Grammar.{bad}
 use Rattle.pp_trace.specs.Text.{count_all, is_full, is_lost}
-use Rattle.pp_replay.specs.declared.ending.Way.{Way}
-use Rattle.pp_replay.specs.declared.ending.Way.TheVariants as way
+use Rattle.pp_devices.specs.declared.ways.Way.{Way}
+use Rattle.pp_devices.specs.declared.ways.Way.TheVariants as way
 use Rattle.pp_devices.specs.Devices.{Device, WasUnread, WasTooLong}
 use Rattle.pp_replay.specs.Replay.{HasBadLine}
 

@@ -3,7 +3,10 @@ use Rattle.std.specs.Prelude.{◌≡◌, ℕ, ◌+◌, ◌*◌, ◌-◌, ◌/◌
 use Rattle.std.specs.Io.KnownBytes.{Appends}
 use Rattle.std.specs.Fmt.{decimal}
 use Rattle.pp_outside.specs.Outside.{Rose, WasAll, GrewByPrefix}
+use Rattle.pp_devices.specs.declared.ways.Way.{Way}
+use Rattle.pp_devices.specs.declared.ways.Way.TheVariants as way
 use Rattle.pp_devices.specs.Devices.{Device, World, WasUnread, WasTooLong, Untouched}
+use Rattle.pp_devices.specs.Ways.{status_of, line_of}
 use Rattle.pp_model.specs.declared.Call.{Call}
 use Rattle.pp_model.specs.declared.Answer.{Answer}
 use Rattle.pp_model.specs.declared.Pair.{Pair}
@@ -21,8 +24,6 @@ use Rattle.pp_words.specs.declared.Settings.{Settings}
 use Rattle.pp_words.specs.declared.Kind.{Kind}
 use Rattle.pp_words.specs.declared.Kind.TheVariants as kind
 use Rattle.pp_words.specs.Words.{settings_of}
-use Rattle.pp_replay.specs.declared.ending.Way.{Way}
-use Rattle.pp_replay.specs.declared.ending.Way.TheVariants as way
 use Rattle.pp_model.specs.Calls.{inserts}
 use Rattle.pp_replay.specs.Run.{IsRunOf}
 
@@ -183,29 +184,6 @@ Cause way.TooLong words before after answers kept =
 Cause way.Unwritten words before after answers kept = IsCut words before after answers kept
 Cause way.NoMemory words before after answers kept = HadNoMemory words before after
 Cause way.NotBuilt words before after answers kept = IsNotBuilt words before after
-
-abbrev pub status_of : Way → ℕ
-status_of way.Answered = 0
-status_of way.BadWords = 1
-status_of (way.BadLine line why) = 2
-status_of way.Unread = 3
-status_of way.Unwritten = 4
-status_of way.NoMemory = 5
-status_of (way.Partly full lost) = 6
-status_of way.TooLong = 7
-status_of way.NotBuilt = 8
-
--- the line that tells it
-abbrev pub line_of : Way → List ℕ
-line_of way.Answered = []
-line_of way.BadWords = codes "words: refused\n"
-line_of (way.BadLine line why) = codes "trace: line " ++ decimal line ++ codes ": " ++ why_text why ++ codes "\n"
-line_of way.Unread = codes "read: failed\n"
-line_of way.Unwritten = codes "write: failed\n"
-line_of way.NoMemory = codes "memory: refused\n"
-line_of (way.Partly full lost) = codes "answers: " ++ decimal full ++ codes " full, " ++ decimal lost ++ codes " lost\n"
-line_of way.TooLong = codes "trace: longer than 16777216 bytes\n"
-line_of way.NotBuilt = codes "map: not built\n"
 
 -- The ending of a replay: it ended in one way, by its cause, with its status, and its line was told.
 pub record IsEnding (words : List (List ℕ)) (before after : World) (Told : List ℕ → Type 0) (ending : EndingView) : Type 0 where

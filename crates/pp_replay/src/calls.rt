@@ -3,13 +3,13 @@
 ghost use Rattle.std.specs.Prelude.{◌≡◌, ◌≤◌, ◌<◌, map, length, Some, None, IfOk, IfErr};
 ghost use Rattle.pp_trace.specs.MadeTrace.{IsMade};
 ghost use Rattle.pp_trace.specs.TraceLists.{IsTrace};
-ghost use Rattle.pp_replay.specs.declared.ending.Way.TheVariants as Way;
+ghost use Rattle.pp_devices.specs.declared.ways.Way.TheVariants as Way;
 ghost use Rattle.pp_words.specs.Words.{MakeFits};
 ghost use Rattle.pp_devices.specs.Devices.{device};
 ghost use Rattle.pp_replay.specs.Replay.{HasCalls, WasRead};
 ghost use Rattle.pp_replay.specs.Parts.{HasNoCalls, HasBadTrace};
 
-use crate::Way;
+use pp_devices::Way;
 use pp_model::Call;
 use pp_outside::{ReadFault, Source, read_all};
 use pp_trace::{Make, Trace, TraceFault, parse};

@@ -12,13 +12,12 @@ mod ending;
 mod jobs;
 mod printing;
 mod running;
-mod telling;
 
-pub use ending::{Ending, Kept, Way};
+pub use ending::{Ending, Kept};
+use pp_devices::tell;
 use pp_outside::{Gate, Sink, Source};
 use std::alloc::Global;
 use std::thread::Threads;
-pub use telling::tell;
 
 /// Does all that the program does: reads its words, reads or makes the trace, runs the calls of all callers on the
 /// chosen map, closes it, and prints the answers and the contents. It tells how it ended by a status, and by a line
@@ -45,7 +44,7 @@ pub fn replay<R: Threads + Sync, S: Source, K: Sink, E: Sink, G: Gate + Sync>(
         → IsAnswered result.status }
 {
     let attempt = attempt::make_attempt(rt, alloc, words, source, sink, gate);
-    telling::tell(errs, attempt.way);
+    tell(errs, attempt.way);
     Ending::of(attempt)
 }
 

@@ -8,7 +8,7 @@ ghost use Rattle.pp_replay.specs.Replay.{output};
 ghost use Rattle.pp_replay.specs.Printed.{IsPrinted, AreShort};
 ghost use Rattle.pp_replay.specs.Parts.{IsFinished, IsWayOf};
 
-use crate::Way;
+use pp_devices::Way;
 use pp_model::{Answer, Pair};
 use pp_outside::{Failed, Sink};
 use pp_trace::{Counts, Make, Printer};

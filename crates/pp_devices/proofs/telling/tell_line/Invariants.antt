@@ -1,6 +1,6 @@
 use Rattle.std.proofs.Common.{length}
 use Rattle.pp_devices.proofs.Tellings.{IsSent}
-use Rattle.pp_devices.proofs.tell_line.Given as goal
+use Rattle.pp_devices.proofs.telling.tell_line.Given as goal
 
 -- what is left of the line is what the sink hasn't taken
 abbrev pub invariant-loop-rest : goal.invariant-loop-rest

@@ -1,16 +1,15 @@
-//! The line that tells how a replay ended.
+//! The line that tells how a program ended.
 
 ghost use Rattle.std.specs.Prelude.{◌≡◌, ◌+◌, ◌≤◌, ◌<◌, List, ◌++◌, length, codes};
 ghost use Rattle.std.specs.Fmt.{decimal};
 ghost use Rattle.arrayvec.specs.ArrayString.{array_string_len};
 ghost use Rattle.pp_trace.specs.Text.{why_text};
 ghost use Rattle.pp_devices.specs.Told.{IsTold};
-ghost use Rattle.pp_replay.specs.Replay.{line_of};
+ghost use Rattle.pp_devices.specs.Ways.{line_of};
 
 use crate::Way;
 use arrayvec::ArrayString;
 use itoa::Buffer;
-use pp_devices::tell_line;
 use pp_outside::Sink;
 use pp_trace::Why;
 
@@ -24,6 +23,20 @@ pub fn tell<E: Sink>(errs: &mut E, way: Way)
 {
     let line = line_text(way);
     tell_line(errs, line.as_str().as_bytes());
+}
+
+/// Writes a line, up to the first write that fails, which ends its writing. Each write offers all that is left of the line. It
+/// takes no memory.
+pub fn tell_line<E: Sink>(errs: &mut E, line: &[u8])
+    ensures { IsTold E.written E.faults E.Writes errs.old errs.new line.now }
+{
+    let mut rest = line;
+    while !rest.is_empty() {
+        match errs.write(rest) {
+            Ok(count) => rest = &rest[count..],
+            Err(_) => return,
+        }
+    }
 }
 
 fn line_text(way: Way) -> ArrayString<LINE>
