@@ -6,6 +6,7 @@ use Rattle.std.specs.Prelude.{slice_get}
 use Rattle.std.proofs.lemmas.Bool.{cases_lt}
 use Rattle.std.proofs.lemmas.List.{length-map}
 use Rattle.std.proofs.lemmas.Option.{slice_get_within}
+use Rattle.std.proofs.lemmas.Simd.{map-map}
 use Rattle.atomic_table.specs.declared.shared.Seat.{Seat}
 use Rattle.pp_link.specs.declared.layout.Sizes.{Sizes}
 use Rattle.pp_link.specs.Places.{IsNumber}
@@ -26,9 +27,9 @@ use Rattle.pp_queues.specs.declared.calls.QueuePlaced.{QueuePlaced}
 use Rattle.pp_queues.specs.Calls.{QueuePassView, queue_view}
 use Rattle.pp_queues.specs.Contents.{QueueGathered, QueueTells, QueueTellsPass, queue_count, queue_caller, numbered}
 use Rattle.pp_queues.specs.Queue.{items_of, StandsIn}
-use Rattle.pp_queues.specs.Queues.{QueueStep, QueueView, queue_head, queue_field}
+use Rattle.pp_queues.specs.Queues.{QueuePass, QueueStep, QueueView, queue_head, queue_field}
 use Rattle.pp_queues.proofs.Closing.{numbered_long}
-use Rattle.pp_queue.specs.Closings.{IsClosing, IsClosedPass, SawAll}
+use Rattle.pp_queue.specs.Closings.{IsClosing, IsClosedPass, SawAll, caller_in, caller_run, queue_run}
 
 -- the values of numbered ones
 values_numbered : (k : ℕ) (vs : List ℕ) → map (λ (p : Pair). p.value) (numbered k vs) ≡ vs
@@ -65,6 +66,22 @@ image_in f [] y i = absurd (in_nil y i)
 image_in f (x ∷ xs) y i = ⊎_elim (λ (here : y ≡ f x). (0, (x, (refl, sym here))))
     (λ (later : IsIn y (map f xs)). let z = image_in f xs y later in (suc z.0, z.1)) (in_cases y (f x) (map f xs) i)
 
+pub position_of : {A : Type 0} (x : A) (xs : List A) → IsIn x xs → (k : ℕ) × (slice_get xs k ≡ Some x)
+position_of x [] i = absurd (in_nil x i)
+position_of x (y ∷ xs) i = ⊎_elim (λ (here : x ≡ y). (zero, ap Some (sym here)))
+    (λ (later : IsIn x xs). let r = position_of x xs later in (suc r.0, r.1)) (in_cases x y xs i)
+
+in_map : {A B : Type 0} (f : A → B) (xs : List A) (x : A) → IsIn x xs → IsIn (f x) (map f xs)
+in_map f [] x i = absurd (in_nil x i)
+in_map {A} {B} f (y ∷ xs) x i = ⊎_elim
+    (λ (here : x ≡ y). subst (λ (w : A). IsIn (f w) (map f (y ∷ xs))) (sym here) (in_first (f y) (map f xs)))
+    (λ (later : IsIn x xs). in_later (f x) (f y) (map f xs) (in_map f xs x later)) (in_cases x y xs i)
+
+map_each : {A B : Type 0} (f g : A → B) (xs : List A) → ((x : A) → IsIn x xs → f x ≡ g x) → map f xs ≡ map g xs
+map_each f g [] same = refl
+map_each f g (x ∷ xs) same = let rest = map_each f g xs (λ y i. same y (in_later y x xs i)) in
+    let here = same x (in_first x xs) in cc
+
 map_at : {A B : Type 0} (f : A → B) (xs : List A) (k : ℕ) (x : A) → slice_get xs k ≡ Some x → slice_get (map f xs) k ≡ Some (f x)
 map_at f [] zero x e = absurd cc
 map_at f [] (suc k) x e = absurd cc
@@ -98,17 +115,39 @@ module _ {A : Type 0} (ps : List A) (seat : A → Seat Unit QueueView) (free_of 
               (λ (less : suc n ≤ z.records). inr (omega arith, less))
               (cases_lt z.records (suc n))
 
-  seen_of : A → QueuePassView
+  abbrev seen_of : A → QueuePassView
   seen_of p = queue_view (view (seat p)) (free_of p) (share_of p)
 
-  pub closes : IsClosing z (map (λ (p : A). queue_view (view (seat p)) (free_of p) (share_of p)) ps) (map
-      (λ (p : Pair). p.value) contents) free live
-      (entries_of v.order)
+  caller_is : (p : A) → IsIn p ps → caller_in v (known (seat p)) ≡ caller_run (seen_of p)
+  caller_is p i = let s = seat p in let e = c.each s (in_map seat ps p i) in
+      let mine = placed_kept (known s).number v.order (view s).order e.0 (sym e.1) in let made = e.1 in cc
+
+  callers : (queue_run v live).callers ≡ map caller_run (map seen_of ps)
+  callers = ap (map (caller_in v)) c.all ∙ (ap (map (caller_in v)) (map-map known seat ps)
+      ∙ (map-map (caller_in v) (λ (p : A). known (seat p)) ps
+      ∙ (map_each (λ (p : A). caller_in v (known (seat p))) (λ (p : A). caller_run (seen_of p)) ps caller_is
+      ∙ sym (map-map caller_run seen_of ps))))
+
+  sizes_known : ((p : A) → IsIn p ps → (known (seat p)).sizes ≡ z) → v.known.sizes ≡ z
+  sizes_known sized = first ps c.all sized
+    where
+      first : (xs : List A) → v.known ∷ v.taken ≡ map known (map seat xs) → ((p : A) → IsIn p xs → (known (seat p)).sizes ≡ z)
+          → v.known.sizes ≡ z
+      first [] none each = absurd cc
+      first (x ∷ xs) is each = let head : v.known ≡ known (seat x) = cc in
+          ap (λ (q : QueuePass). q.sizes) head ∙ each x (in_first x xs)
+
+  pub closes : ((p : A) → IsIn p ps → (known (seat p)).sizes ≡ z)
+      → IsClosing z (map (λ (p : A). queue_view (view (seat p)) (free_of p) (share_of p)) ps) (map
+      (λ (p : Pair). p.value) contents) free (queue_run v live)
   unfolding log_of made_by
-  closes = let values : map (λ (p : Pair). p.value) contents ≡ items_of (log_of v.order) =
+  closes sized = let values : map (λ (p : Pair). p.value) contents ≡ items_of (log_of v.order) =
       ap (map (λ (p : Pair). p.value)) c.told.contents ∙ values_numbered 0 (items_of (log_of v.order)) in record {
+        sizes_are = sizes_known sized;
+        log_is = refl;
         sound = c.told.sound;
         items_are = values;
+        callers_are = callers;
         each = λ k q e. let y = at_image (λ (p : A). queue_view (view (seat p)) (free_of p) (share_of p)) ps k q e in
             subst (IsClosedPass (log_of v.order) (entries_of v.order) k) y.1.1 (closed_pass k y.0 y.1.0);
         saw_all = let l = c.longest in let y = image_in seat ps l.0 l.1.0 in record {

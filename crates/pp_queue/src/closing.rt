@@ -2,9 +2,9 @@
 
 ghost use Rattle.std.specs.Prelude.{◌≡◌, ◌+◌, ◌≤◌, ◌++◌, IfOk, IfErr, length, map, vec_capacity};
 ghost use Rattle.pp_model.specs.Lists.{AtEach};
-ghost use Rattle.pp_base.specs.Passes.{known};
+ghost use Rattle.pp_base.specs.Passes.{known, view};
 ghost use Rattle.pp_queue.specs.Passes.{IsReady, pass_seen};
-ghost use Rattle.pp_queue.specs.Closings.{IsClosing, closed_order};
+ghost use Rattle.pp_queue.specs.Closings.{IsClosing, queue_run};
 
 use crate::{Queue, QueueShape};
 use pp_base::Pass;
@@ -52,7 +52,7 @@ impl Queue {
         requires ready { AtEach passes.items (λ k p. IsReady self p) }
         requires numbered { AtEach passes.items (λ k p. (known p.seat).number ≡ k) }
         ensures closed { IfOk result (λ c. IsClosing self.pool.layout (map (λ p. pass_seen p) passes.items) c.items.items
-            c.closed.free.items c.closed.witness.live.items (closed_order c.closed.witness.seat)) }
+            c.closed.free.items (queue_run (view c.closed.witness.seat) c.closed.witness.live.items)) }
         ensures back { IfErr result (λ e. (e.map.pool ≡ self.pool) × (e.passes.items ≡ passes.items)) }
     {
         let records = self.pool.layout.sizes().records as usize;
