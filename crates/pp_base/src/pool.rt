@@ -13,6 +13,7 @@ use pp_rule::{PoolRule, Shape};
 use std::alloc::Global;
 
 /// A table of records under the rule of its structure.
+#[derive(Drop)]
 pub struct Pool<S: Shape> {
     pub table: Table<(), SeatView<S::Entry, S::Said, S::Own>, Sizes, PoolRule<S>, Global>,
     pub layout: Layout,
@@ -22,6 +23,7 @@ pub struct Pool<S: Shape> {
 }
 
 /// One caller's right to use a pool.
+#[derive(Drop)]
 pub struct Pass<S: Shape> {
     /// What it makes its steps with.
     pub seat: Seat<(), SeatView<S::Entry, S::Said, S::Own>>,

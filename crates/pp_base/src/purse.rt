@@ -13,6 +13,7 @@ pub struct InHand {
 }
 
 /// The lists of a pass.
+#[derive(Drop)]
 pub struct Purse {
     /// The free records that were not taken.
     pub free: Vec<u32>,
