@@ -10,10 +10,10 @@ ghost use Rattle.pp_replay.specs.View.{kept_run};
 ghost use Rattle.pp_devices.specs.Devices.{Device, device, world};
 ghost use Rattle.pp_replay.specs.Replay.{Cause, HasCalls};
 
+use crate::Kept;
 use crate::calls::take_calls;
 use crate::printing::finish;
 use crate::running::run_on;
-use crate::Kept;
 use pp_devices::Way;
 use pp_model::{Answer, Call, PlainMap};
 use pp_outside::{Gate, Sink, Source};
