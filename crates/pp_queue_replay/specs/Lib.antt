@@ -1,0 +1,4 @@
+pub mod Grammar
+pub mod Text
+pub mod Runs
+pub mod Jobs
