@@ -6,3 +6,7 @@ pub mod Changes
 pub mod Chains
 pub mod Runs
 pub mod RunJobs
+pub mod Tallies
+pub mod PrintedTexts
+pub mod Finishes
+pub mod Completeness
