@@ -1,6 +1,8 @@
 -- How printing ends, and what that makes of a queue's replay.
 use Rattle.std.proofs.Common.{◌≡◌, ℕ, suc, ◌*◌, ◌^◌, ◌<◌, ◌≤◌, List, [], ◌∷◌, length, refl, sym, ap, ◌∙◌, arith, Ok}
-use Rattle.std.specs.Prelude.{Option, Some, None, sum_by}
+use Rattle.std.specs.Prelude.{Bool, false, Option, Some, None, sum_by, is_some}
+use Rattle.std.proofs.lemmas.Bool.{true≢false}
+use Rattle.pp_trace.specs.declared.Make.{Make}
 use Rattle.std.proofs.lemmas.List.Sums.{sum_by-cons}
 use Rattle.pp_devices.specs.declared.ways.Way.{Way}
 use Rattle.pp_devices.specs.declared.ways.Way.TheVariants as way
@@ -14,6 +16,11 @@ use Rattle.pp_queue.specs.Closings.{QueueRun}
 use Rattle.pp_queue_replay.specs.Parts.{IsPrinted, AreShort, IsFinished, IsWayOf, HasNoCalls}
 use Rattle.pp_queue_replay.specs.Replay.{Cause, Says, WasRead, IsReplay, IsRunUnder}
 use Rattle.pp_queue_replay.specs.Text.{out, count_all, is_full, is_lost}
+
+-- no made trace is asked for
+pub not_made : (make : Option Make) (b : Bool) → b ≡ is_some make → b ≡ false → make ≡ None
+not_made None b is none = refl
+not_made (Some m) b is none = absurd (true≢false (sym is ∙ none))
 
 -- lists that are short have few elements in all
 sum_short : (lists : List (List QueueAnswer)) → AtEach lists (λ c given. length given ≤ 16777216)

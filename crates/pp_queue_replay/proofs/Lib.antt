@@ -10,3 +10,4 @@ pub mod Tallies
 pub mod PrintedTexts
 pub mod Finishes
 pub mod Completeness
+pub mod Starts

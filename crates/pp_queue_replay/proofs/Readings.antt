@@ -13,6 +13,7 @@ use Rattle.pp_queue_replay.specs.declared.parsing.Reading.TheVariants.{Asks}
 use Rattle.pp_trace.specs.declared.scanning.Span.{Span}
 use Rattle.pp_trace.specs.Lines.{IsLineAt, lines_of, fields_of}
 use Rattle.pp_queue_replay.specs.Grammar.{reading, readings_of, calls_of, first_bad, lines, bad, IsTrace, with_call}
+use Rattle.pp_queue_replay.specs.Jobs.{AreCalls}
 use Rattle.pp_queue_replay.proofs.Limits.{asker-below, lists-short}
 
 -- what the lines of a text say from its front on
@@ -121,3 +122,10 @@ trace-read text callers from n lists end short good read =
       lists_are = are;
       short = rw are (lists-short text callers 16777216 short);
     }
+
+-- the lists that a text says are one for each caller
+pub trace_calls : (text : List ℕ) (callers : ℕ) (lists : List (List QueueCall)) → IsTrace text callers lists → AreCalls callers lists
+trace_calls text callers lists is = record {
+  each_caller = ap length is.lists_are ∙ (length-map (upto 0 callers) (lines text callers) ∙ length-upto 0 callers);
+  short = is.short;
+}
