@@ -3,5 +3,7 @@ pub mod Runs
 pub mod RunJobs
 pub mod PrintedTexts
 pub mod Finishes
+pub mod Unders
 pub mod PlainRuns
 pub mod Completeness
+pub mod Numbers

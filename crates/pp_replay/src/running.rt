@@ -47,6 +47,7 @@ where
     ensures ran { IfOk result (λ ran. IsRunOf M.meaning (M.sizes chosen) races (views_of M.pass_view passes.items)
         (map (λ v. v.items) lists.items) (map (λ v. v.items) ran.answers.items) (M.run_view ran.closed.witness)) }
     ensures contents { IfOk result (λ ran. ran.closed.contents.items ≡ contents_of (M.run_view ran.closed.witness).log) }
+    ensures few { IfOk result (λ ran. M.meaning.live (length ran.closed.contents.items) ≤ (M.sizes chosen).records) }
 {
     let mut jobs = jobs_of(alloc, passes, lists)?;
     run(rt, &chosen, jobs.as_mut_slice(), races, gate);

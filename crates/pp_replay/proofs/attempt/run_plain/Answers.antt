@@ -2,7 +2,8 @@ use Rattle.std.proofs.Common.{arith, ◌<◌, ◌≤◌, length, map, refl, ap}
 use Rattle.std.proofs.lemmas.List.{length-map}
 use Rattle.std.proofs.lemmas.Option.{slice_get_read}
 use Rattle.pp_replay.proofs.Lists.{at_mapped}
-use Rattle.pp_replay.proofs.PlainRuns.{under, short, few}
+use Rattle.pp_replay.proofs.PlainRuns.{plain_under}
+use Rattle.pp_replay.proofs.Unders.{short}
 use Rattle.pp_replay.proofs.Finishes.{refused, cause_of}
 use Rattle.pp_replay.proofs.attempt.run_plain.Goals as goal
 
@@ -24,16 +25,14 @@ overflow_cast-calls g c =
 pub finish-way-requires-clause-short : goal.finish-way-requires-clause-short
 finish-way-requires-clause-short g c =
     let run = rw (c.in-Ok.ensures.sizes, c.in-Ok-from_array.ensures.items) at c.in-Ok-run_on.ensures.ran in
-    rw c.deref.ensures.value (short c.args.settings (map (λ v. v.items) c.args.lists.items) (map
+    rw c.deref.ensures.value (short c.args.settings _ _ _ (map (λ v. v.items) c.args.lists.items) (map
     (λ v. v.items) c.in-Ok-run_on.ran.answers.items)
-    _ c.in-Ok.pass c.requires.within c.requires.plain c.in-Ok.ensures.share run c.requires.calls.short)
+    _ run c.requires.within c.requires.calls.each_caller c.requires.calls.short)
 
 pub finish-way-requires-clause-few : goal.finish-way-requires-clause-few
 finish-way-requires-clause-few g c =
-    let run = rw (c.in-Ok.ensures.sizes, c.in-Ok-from_array.ensures.items) at c.in-Ok-run_on.ensures.ran in
-    let small = few c.args.settings.records c.in-Ok-run_on.ran.closed.witness.records c.args.settings.races
-    c.in-Ok-run_on.ran.closed.witness.placed.items c.in-Ok.pass _ _ run c.requires.calls.short in
-    omega (arith, small, ap length c.contents.ensures, ap length c.in-Ok-run_on.ensures.contents)
+    let few = rw c.in-Ok.ensures.sizes at c.in-Ok-run_on.ensures.few in
+    omega (arith, few, c.requires.within.records_high, ap length c.contents.ensures)
 
 pub returns-in_default : goal.returns-in_default
 returns-in_default g c = λ words before after said_by calls.
@@ -53,6 +52,6 @@ returns g c = λ words before after said_by calls.
     let ends = rw (c.deref.ensures.value, c.contents.ensures, c.in-Ok-run_on.ensures.contents) at c.finish-way.ensures in
     cause_of words c.args.settings (map (λ v. v.items) c.args.lists.items) (map (λ v. v.items) c.in-Ok-run_on.ran.answers.items)
     _ before _ after _ said_by (rw c.requires.plain tt) calls
-    (under c.args.settings (map (λ v. v.items) c.args.lists.items) (map (λ v. v.items) c.in-Ok-run_on.ran.answers.items) _ c.in-Ok.pass
+    (plain_under c.args.settings (map (λ v. v.items) c.args.lists.items) (map (λ v. v.items) c.in-Ok-run_on.ran.answers.items) _ c.in-Ok.pass
     c.requires.within c.requires.plain c.in-Ok.ensures.share run)
     c.finish-way.result ends

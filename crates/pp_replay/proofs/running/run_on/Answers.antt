@@ -1,8 +1,9 @@
-use Rattle.std.proofs.Common.{◌≡◌, ◌<◌, length, map, sym, ap, ◌∙◌}
+use Rattle.std.proofs.Common.{arith, ◌≡◌, ◌<◌, length, map, sym, ap, ◌∙◌}
 use Rattle.std.specs.Prelude.{Some, slice_get}
 use Rattle.std.proofs.lemmas.Option.{slice_get_within, get_or_from_slice_get}
 use Rattle.std.proofs.lemmas.List.{take_at}
 use Rattle.pp_replay.proofs.Lists.{at_mapped}
+use Rattle.pp_replay.proofs.Numbers.{few_live}
 use Rattle.pp_replay.proofs.RunJobs.{pass_at, list_at, closes, runs}
 use Rattle.pp_replay.proofs.running.run_on.Goals as goal
 
@@ -45,3 +46,7 @@ returns-in-Ok-clause-ran g c =
     c.in_ok-jobs.ensures.passes c.in_ok-jobs.ensures.calls c.requires.passes (rw c.as_mut_slice.ensures.value at c.run.ensures.ran)
     c.in-Ok.closed.contents.items c.in-Ok.closed.free.items (g.M.MapCalls.run_view c.in-Ok.closed.witness)
     (rw passes at c.in-Ok.ensures.closed) c.requires.lists)
+
+pub returns-in-Ok-clause-few : goal.returns-in-Ok-clause-few
+returns-in-Ok-clause-few g c = let closing = c.in-Ok.ensures.closed in
+    let live = few_live _ _ _ closing.numbers in let count = closing.live in omega arith
