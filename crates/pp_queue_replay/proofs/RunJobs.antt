@@ -53,9 +53,11 @@ module _ {P : Type 0} (pass_of : Job → P) (view : P → QueuePassView) (Ready 
         let had = before_at k y from.1 in
         let both = ran.each k x y had from.1 in
         let opened = opens k (pass_of x) (pass_at pass_of passes lists was passes_are lists_are k x had) in
-        subst (λ (p : P). Ready p × ((view p).caller ≡ k)) from.2
-        (both.0, caller_kept z races (view (pass_of x)) (view (pass_of y)) x.calls.items y.answers.items both.2
-        ∙ opened.1.caller)
+        subst (λ (p : P). Ready p × ((view p).caller ≡ k)) from.2 (
+          both.0,
+          caller_kept z races (view (pass_of x)) (view (pass_of y)) x.calls.items y.answers.items both.2
+              ∙ opened.1.caller,
+        )
 
     made : (c : ℕ) (pass last : QueuePassView) (calls : List QueueCall) (got : List QueueAnswer)
         → slice_get (map view passes) c ≡ Some pass

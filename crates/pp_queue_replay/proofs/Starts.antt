@@ -86,8 +86,10 @@ module _ (settings : Settings) (within : InRange settings) (opened : List QueueP
   nobody = record { caller = 0; seen = []; mine = []; steps = []; order = []; free = []; retired_are = []; chains = 0; share = 0 }
 
   pass_for : (c : ℕ) (got : List QueueAnswer) → slice_get answers c ≡ Some got → (p : QueuePassView) × (slice_get opened c ≡ Some p)
-  pass_for c got at = (get_or opened c nobody,
-    slice_get-get_or opened c nobody (omega (arith, slice_get_within answers c got at, ran.answered, ran.passes_are)))
+  pass_for c got at = (
+    get_or opened c nobody,
+    slice_get-get_or opened c nobody (omega (arith, slice_get_within answers c got at, ran.answered, ran.passes_are)),
+  )
 
   chain : (c : ℕ) (got : List QueueAnswer) (at : slice_get answers c ≡ Some got)
       → IsCaller (queue_sizes settings.callers settings.records) settings.races run c (pass_for c got at).0 (list_for c got at).0 got

@@ -89,15 +89,7 @@ fn run_one<G: Gate>(queue: &Queue, job: &mut Job, races: u64, gate: &G)
         calls,
         answers,
     } = job;
-    make_calls(
-        queue,
-        *caller,
-        pass,
-        calls.as_slice(),
-        races,
-        gate,
-        answers,
-    );
+    make_calls(queue, *caller, pass, calls.as_slice(), races, gate, answers);
 }
 
 fn make_calls<G: Gate>(
@@ -127,12 +119,7 @@ fn make_calls<G: Gate>(
 }
 
 /// Makes one call.
-fn make_call(
-    queue: &Queue,
-    pass: &mut Pass<QueueShape>,
-    call: QueueCall,
-    races: u64,
-) -> QueueAnswer
+fn make_call(queue: &Queue, pass: &mut Pass<QueueShape>, call: QueueCall, races: u64) -> QueueAnswer
     requires ready { IsReady queue.now pass.old }
     requires races { 1 ≤ races }
     ensures ready { IsReady queue.now pass.new }

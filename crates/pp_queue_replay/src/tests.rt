@@ -38,15 +38,7 @@ fn replayed<R: Threads + Sync, G: Gate + Sync>(
     let writes = failing.1.to_vec(alloc)?;
     let mut sink = MemSink::new(alloc, 16, writes);
     let mut errs = MemSink::new(alloc, 7, Vec::new(alloc));
-    let ending = queue_replay(
-        rt,
-        alloc,
-        &words,
-        &mut source,
-        &mut sink,
-        &mut errs,
-        gate,
-    );
+    let ending = queue_replay(rt, alloc, &words, &mut source, &mut sink, &mut errs, gate);
     Ok(Shown {
         status: ending.status,
         sink: sink.written().to_vec(alloc)?,
@@ -56,8 +48,7 @@ fn replayed<R: Threads + Sync, G: Gate + Sync>(
 
 const ONE: &[u8] = b"0 take\n0 put 5\n0 put 6\n0 take\n0 take\n0 take\n";
 
-const ONE_OUT: &[u8] =
-    b"0 1 empty\n0 2 put\n0 3 put\n0 4 took 5\n0 5 took 6\n0 6 empty\nleft 0\n";
+const ONE_OUT: &[u8] = b"0 1 empty\n0 2 put\n0 3 put\n0 4 took 5\n0 5 took 6\n0 6 empty\nleft 0\n";
 
 const NINE: &[u8] =
     b"0 put 1\n0 put 2\n0 put 3\n0 put 4\n0 put 5\n0 put 6\n0 put 7\n0 put 8\n0 take\n0 put 9\n";
@@ -75,7 +66,13 @@ const ABOVE: &[u8] = b"0 put 340282366920938463463374607431768211456\n";
 fn replays_end_as_worked_by_hand(rt: HostRuntime) -> Result<(), Fail> {
     let rows: [(&str, &[u8], u8, &[u8], &[u8]); 15] = [
         ("--callers 1", ONE, 0, ONE_OUT, b""),
-        ("--callers 1 --records 8", NINE, 6, NINE_OUT, b"answers: 1 full, 0 lost\n"),
+        (
+            "--callers 1 --records 8",
+            NINE,
+            6,
+            NINE_OUT,
+            b"answers: 1 full, 0 lost\n",
+        ),
         ("", GREATEST, 0, GREATEST_OUT, b""),
         ("", b"", 0, b"left 0\n", b""),
         ("", ABOVE, 2, b"", b"trace: line 1: value\n"),

@@ -71,8 +71,10 @@ module _ (settings : Settings) (meaning : Meaning) (sizes : MapSizes) (opened : 
   }
 
   pub pass_for : (c : ℕ) (got : List Answer) → slice_get answers c ≡ Some got → (p : PassView) × (slice_get opened c ≡ Some p)
-  pass_for c got at = (get_or opened c nobody,
-    slice_get-get_or opened c nobody (omega (arith, slice_get_within answers c got at, ran.answered, ran.passes_are)))
+  pass_for c got at = (
+    get_or opened c nobody,
+    slice_get-get_or opened c nobody (omega (arith, slice_get_within answers c got at, ran.answered, ran.passes_are)),
+  )
 
   pub chain : (c : ℕ) (got : List Answer) (at : slice_get answers c ≡ Some got)
       → IsCaller meaning sizes settings.races run c (pass_for c got at).0 (list_for c got at).0 got
