@@ -31,6 +31,7 @@ pub fn rest(pool: &Pool<ListShape>, pass: &mut Pass<ListShape>)
     requires fits { Fits pool.now.table.shared.table_id pool.now.layout pass.old.seat }
     ensures same { IsSame pass.old.seat pass.new.seat }
     ensures empty { AllEmpty (known pass.new.seat) }
+    ensures cleared { Cleared 5 5 5 (known pass.old.seat) (known pass.new.seat) }
     ensures call { SameCallOf (known pass.old.seat).own (known pass.new.seat).own }
     ensures going { (known pass.new.seat).own.going ≡ (known pass.old.seat).own.going }
     ensures rest { SameRest (known pass.old.seat) (known pass.new.seat) }
