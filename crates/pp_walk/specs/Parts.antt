@@ -105,6 +105,7 @@ pub record Stopped (z : Sizes) (q : ListPass) (call : Call) (anchor : Place) (w 
   pub anchored : IsAnchor z q (key_of call) anchor
   pub low : w < 5
   pub held : (slot q w).held ≡ true
+  pub stands : q.own.at ≡ w
   pub real : (slot q w).named ≢ 0
   pub key_is : key ≡ (slot q w).key
   pub high : key_of call ≤ key

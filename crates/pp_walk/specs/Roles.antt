@@ -87,7 +87,8 @@ IsPlain l = word_of l % 16 ≡ 0
 pub data IsEnd (z : Sizes) (q : ListPass) (k : ℕ) (f : Found) : Type 0 where
   at_nil : target (word_of f.end) ≡ 0 → f.word ≡ 0 → f.equal ≡ false → f.marked ≡ false → IsEnd z q k f
   at_record : target (word_of f.end) ≢ 0 → f.word < 5 → (slot q f.word).held ≡ true → (slot q f.word).named ≡ target (word_of f.end)
-      → k ≤ (slot q f.word).key → f.equal ≡ nat_eq (slot q f.word).key k → f.anchor ≢ Word f.word → f.word ≢ q.own.first → IsEnd z q k f
+      → k ≤ (slot q f.word).key → f.equal ≡ nat_eq (slot q f.word).key k → f.anchor ≢ Word f.word → f.word ≢ q.own.first
+      → q.own.at ≡ f.word → IsEnd z q k f
 
 -- Nothing is gathered and the anchor leads to the end, or what was gathered leads there from its first record.
 pub data HasChain (q : ListPass) (f : Found) : Type 0 where
@@ -108,7 +109,8 @@ pub record IsFound (z : Sizes) (q : ListPass) (call : Call) (f : Found) : Type 0
   pub looks : is_look call ≡ true → q.own.first ≡ 5
   -- a call that changes the list ends at no removed record
   pub unmarked : is_look call ≡ false → f.marked ≡ false
-  pub empty : (j : ℕ) → j < 5 → Word j ≢ f.anchor → j ≢ q.own.first → (target (word_of f.end) ≢ 0 → j ≢ f.word) → IsEmpty (slot q j)
+  -- where it ended at nil, the word in which the call stands may be in use
+  pub empty : (j : ℕ) → j < 5 → Word j ≢ f.anchor → j ≢ q.own.first → j ≢ q.own.at → IsEmpty (slot q j)
 
 -- what it found: the value of a record with the call's key that isn't removed, or nothing
 abbrev pub found_in : ListPass → Found → Option ℕ

@@ -9,7 +9,7 @@ use Rattle.pp_model.specs.MapCalls.{placed}
 use Rattle.pp_rule.specs.Orders.{log_of, placed_by}
 use Rattle.pp_base.specs.declared.source.Place.{Place}
 use Rattle.pp_base.specs.declared.source.Place.TheVariants.{Head, Walk as Word}
-use Rattle.pp_calls.specs.Steps.{StandsThen}
+use Rattle.pp_calls.specs.Steps.{HasOwn, StandsThen}
 use Rattle.pp_lists.specs.declared.own.ListOwn.{ListOwn}
 use Rattle.pp_lists.specs.Walks.{IsRight}
 use Rattle.pp_lists.specs.Turns.{ListView, beginning}
@@ -58,7 +58,7 @@ pub record Turned (was : Walk) (lost : ℕ) (calls : List Placed) (own : ListOwn
   pub same : SameCallOf own now.known.own
   pub rest : SameRest before.known now.known
   pub trod : Trod lost calls before now
-  pub stands : StandsThen before → StandsThen now
+  pub stands : HasOwn now.order → StandsThen before → StandsThen now
 
 -- It goes on.
 pub record Goes (z : Sizes) (was w : Walk) (lost : ℕ) (before now : ListView) : Type 0 where
