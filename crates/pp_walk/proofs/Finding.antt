@@ -68,13 +68,14 @@ plain_first q walk n word equal marked = by (nat_lt walk.first 5)
 
 -- It ended at the record in the walk word i.
 pub found_there : (z : Sizes) (q : ListPass) (call : Call) (walk : Walk) (i key link n : ℕ) (equal marked : Bool) → Stopped z q call walk.anchor i key link
-    → n ≡ (slot q i).named → equal ≡ nat_eq key (key_of call) → (is_look call ≡ false → marked ≡ false) → walk.first ≡ q.own.first → Counts q walk.chain
+    → n ≡ (slot q i).named → n < 4294967296 → equal ≡ nat_eq key (key_of call) → (is_look call ≡ false → marked ≡ false) → walk.first ≡ q.own.first → Counts q walk.chain
     → IsFound z q call (finding walk q n i equal marked)
-found_there z q call walk i key link n equal marked s number same unmarked first counts = record {
+found_there z q call walk i key link n equal marked s number small same unmarked first counts = record {
   call_is = s.call_is;
   anchored = s.anchored;
   plain_first = plain_first q walk n i equal marked;
   plain_end = plain_bits n;
+  small_end = omega arith;
   end = at_record (λ e. s.real (sym number ∙ (sym (plain_target n) ∙ e))) s.low s.held (sym number ∙ sym (plain_target n))
       (subst (λ (k : ℕ). key_of call ≤ k) s.key_is s.high) (same ∙ ap (λ (k : ℕ). nat_eq k (key_of call)) s.key_is) s.apart
       (λ e. apart_first e) s.stands;
@@ -123,6 +124,7 @@ found_nil z q call walk call_is anchored chains leads looks empty first counts =
   anchored = anchored;
   plain_first = plain_first q walk 0 0 false false;
   plain_end = plain_bits 0;
+  small_end = omega arith;
   end = at_nil (plain_target 0) refl refl refl;
   chain = has_chain q walk 0 0 false false chains leads first counts;
   count = counts;
@@ -156,6 +158,7 @@ module _ (z : Sizes) (q : ListPass) (call : Call) (f : Found) (found : IsFound z
         some_chain = more_made;
         plain_first = found.plain_first;
         plain_end = found.plain_end;
+        small_end = found.small_end;
         leads = leads;
         joined = joined;
       }

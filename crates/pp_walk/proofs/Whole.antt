@@ -266,14 +266,14 @@ module _ (z : Sizes) (walk : Walk) (first : ℕ) (v u : ListView) (is : IsWalk z
 
   -- It ended at the record in the walk word i.
   pub turn_ends : (i key link n : ℕ) (equal marked : Bool) (w : ListView)
-      → CameOn z (started walk) (source_place z u.known walk.at Left) first u w (Ends i key link) → n ≡ (slot w.known i).named
+      → CameOn z (started walk) (source_place z u.known walk.at Left) first u w (Ends i key link) → n ≡ (slot w.known i).named → n < 4294967296
       → equal ≡ nat_eq key (key_of walk.call) → marked ≡ nat_eq (flag_bit link) 1
       → Arrives z walk (finding (started walk) w.known n i equal marked) v w
-  turn_ends i key link n equal marked w c number same marks = let last : ListView = c.1.0 in let e = c.1.1.1 in let s = e.stopped in record {
+  turn_ends i key link n equal marked w c number small same marks = let last : ListView = c.1.0 in let e = c.1.1.1 in let s = e.stopped in record {
     own = l.own;
     calls = e.calls;
     turned = turned_end walk.call walk.anchor i key link last w c.0 c.1.1.0 e;
-    found = found_there z w.known walk.call (started walk) i key link n equal marked s number same
+    found = found_there z w.known walk.call (started walk) i key link n equal marked s number small same
         (λ no. marks ∙ Rattle.std.proofs.Common.ne_eqb (flag_bit link) 1 (λ f. let plain = s.unmarked no in omega arith))
         (gathered_u ∙ sym e.gathered.first)
         (counts_u ∙ ap (λ (cs : List Rattle.pp_lists.specs.declared.own.Gathered.Gathered). min (length cs) most) (sym e.gathered.chain));

@@ -29,14 +29,20 @@ use Rattle.pp_lists.specs.Losses.{finds}
 use Rattle.pp_walk.specs.declared.effects.Taken.{Taken}
 use Rattle.pp_walk.specs.Words.{SameRest}
 use Rattle.pp_walk.specs.Roles.{IsAnchor, IsPlain}
-use Rattle.pp_walk.specs.Trod.{Quiet, FindSo, StrikeNone}
+use Rattle.pp_model.specs.Pass.{MapSizes}
+use Rattle.pp_walk.specs.Parts.{plain_link}
+use Rattle.pp_walk.specs.Trod.{Quiet, StrikeNone}
 use Rattle.pp_walk.specs.Steps.{PublishedAt}
+
+-- so many of these steps are finds in a map with so many passes, whatever was before them
+abbrev pub FindIn : ℕ → ℕ → List NamedStep → Type 0
+FindIn passes lost steps = (sizes : MapSizes) (earlier : List NamedStep) → sizes.passes ≡ passes → finds sizes earlier steps ≡ lost
 
 -- The pass made these steps, by which no call took effect and none was placed. So many turns are lost by them.
 pub record Tried (lost : ℕ) (v w : ListView) : Type 0 where
   pub steps : List NamedStep
   pub did : Made steps v w
-  pub loses : FindSo lost steps
+  pub loses : FindIn v.known.sizes.passes lost steps
   pub strikes : StrikeNone steps
 
 -- The anchor stands before the key in its list, and the end is nil or a greater key that the pass holds.
@@ -59,7 +65,7 @@ pub record FillsAt (q : ListPass) (p : Purse) (n k v : ℕ) (end : Link) : Type 
 -- The exchange found this word. Where it was the expected one, the record is published. Else one turn is lost by it.
 pub record PublishesSo (place n k v end : ℕ) (before now : ListView) (done : Bool) : Type 0 where
   pub found : ℕ
-  pub published : PublishedAt n place k v end (16 * n) found before now
+  pub published : PublishedAt n place k v end (word_of (plain_link n)) found before now
   pub hit : done ≡ true → found ≡ end
   pub missed : done ≡ false → (found ≢ end) × Tried 1 before now × (now.known ≡ before.known)
   pub past : 17 * before.known.sizes.passes < place
@@ -82,6 +88,7 @@ pub record MarksOne (z : Sizes) (w : ℕ) (call : Call) (taken : Taken) (before 
   pub value : taken.value ≡ value_of (slot before.known w).value
   pub next_is : target (word_of taken.next) ≡ target (bit_or found 1)
   pub next_plain : IsPlain taken.next
+  pub next_small : IsSmall (word_of taken.next)
 
 abbrev pub MarksSo : Sizes → ℕ → Call → ListView → ListView → Option Taken → Type 0
 MarksSo z w call before now None = MarksNone (cell_place z (slot before.known w).named 2) before now
@@ -95,6 +102,7 @@ pub record MayDetachRun (z : Sizes) (q : ListPass) (anchor : Place) (first end :
   pub some_chain : q.own.chain ≢ []
   pub plain_first : IsPlain first
   pub plain_end : IsPlain end
+  pub small_end : IsSmall (word_of end)
   pub leads : target (word_of first) ≡ (slot q q.own.first).named
   pub joined : Joined (slot q q.own.first).named q.own.chain (target (word_of end))
 

@@ -8,6 +8,7 @@ use Rattle.pp_model.specs.declared.Call.{Call}
 use Rattle.pp_model.specs.declared.Call.TheVariants.{Get, Insert, Remove, Cut}
 use Rattle.pp_model.specs.Calls.{key_of}
 use Rattle.pp_rule.specs.Lists.{IsIn}
+use Rattle.pp_rule.specs.States.{IsSmall}
 use Rattle.pp_rule.specs.Views.{slot, value_of}
 use Rattle.pp_base.specs.declared.source.Place.{Place}
 use Rattle.pp_base.specs.declared.source.Place.TheVariants.{Head, Walk as Word}
@@ -103,6 +104,7 @@ pub record IsFound (z : Sizes) (q : ListPass) (call : Call) (f : Found) : Type 0
   pub anchored : IsAnchor z q (key_of call) f.anchor
   pub plain_first : IsPlain f.first
   pub plain_end : IsPlain f.end
+  pub small_end : IsSmall (word_of f.end)
   pub end : IsEnd z q (key_of call) f
   pub chain : HasChain q f
   pub count : Counts q f.chain

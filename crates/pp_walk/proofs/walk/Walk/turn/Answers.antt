@@ -75,10 +75,11 @@ returns-in-Gathers-clause-turned c = let z = c.args.pool.now.layout in let v = v
 
 pub returns-in-Ends-clause-turned : goal.returns-in-Ends-clause-turned
 returns-in-Ends-clause-turned c = let z = c.args.pool.now.layout in let v = view c.args.pass.now.seat in let pass = c.come_on.new.pass in
-    let w = view pass.seat in
+    let w = view pass.seat in let s = c.in-Ends.ensures.on.1.1.1.stopped in
+    let named = named_at (known pass.seat).walk pass.walk c.in-Ends.word pass.keeping.walk_is in
     subst (λ (f : Found). Arrives z c.args.self.now f v w) (sym c.found-in-Ends.ensures)
     (turn_ends z c.args.self.now c.load_first-first.result v (view c.load_first-first.new.pass.seat) c.requires.walk
     c.load_first-first.ensures.loads (λ nil. c.if-number-eq0.false (c.number.ensures ∙ (c.unpacked-link.ensures.number ∙ nil.1)))
     c.in-Ends.word c.in-Ends.key c.in-Ends.left _ _ _ w c.in-Ends.ensures.on
-    (named_at (known pass.seat).walk pass.walk c.in-Ends.word pass.keeping.walk_is)
+    named (let low = (pass.keeping.pass.held c.in-Ends.word s.low s.held).1 in let most = pass.keeping.pass.within.records in omega arith)
     (ap (λ (k : ℕ). nat_eq c.in-Ends.key k) c.key_for.ensures) (odd_is c.in-Ends.left))
