@@ -1,12 +1,12 @@
 -- The later turns of a call that changes the list.
-use Rattle.std.proofs.Common.{◌≡◌, ◌≢◌, inl, inr, ℕ, zero, suc, ◌+◌, ◌*◌, ◌%◌, ◌<◌, ◌≤◌, Bool, true, false, cond, nat_eq, List, [], ◌∷◌, ◌++◌, length}
+use Rattle.std.proofs.Common.{◌≡◌, ◌≢◌, inl, inr, ℕ, zero, suc, ◌+◌, ◌*◌, ◌%◌, ◌<◌, ◌≤◌, Bool, true, false, cond, nat_eq, nat_lt, List, [], ◌∷◌, ◌++◌, length}
 use Rattle.std.proofs.Common.{refl, sym, ap, ◌∙◌, subst, arith, true≢false, eq-eqb, ne_eqb}
 use Rattle.std.specs.Prelude.{bit_or, map, not}
 use Rattle.std.proofs.Math.Decide.{ℕ_discrete}
 use mathlib.Core.Logic.{dite}
 use Rattle.pp_link.specs.declared.layout.Sizes.{Sizes}
 use Rattle.pp_link.specs.declared.link.Link.{Link}
-use Rattle.pp_link.specs.Links.{target, flag_bit, word_of, bit}
+use Rattle.pp_link.specs.Links.{target, flag_bit, invalid_bit, word_of, bit}
 use Rattle.pp_link.specs.Places.{head_place, cell_place, frontier_place}
 use Rattle.pp_link.proofs.Packing.{bit_small}
 use Rattle.pp_model.specs.declared.Call.{Call}
@@ -34,19 +34,22 @@ use Rattle.pp_unlink.specs.declared.unlinking.Unlink.{Unlink}
 use Rattle.pp_unlink.specs.declared.unlinking.Unlink.TheVariants.{Detached, Changed}
 use Rattle.pp_lists.specs.declared.own.ListOwn.{ListOwn}
 use Rattle.pp_lists.specs.declared.own.Gathered.{Gathered}
-use Rattle.pp_lists.specs.Walks.{Source, at_head, at_record, Joined, bucket}
+use Rattle.pp_lists.specs.Walks.{Source, at_head, Joined, more, bucket}
+use Rattle.pp_lists.specs.Walks.{at_record as at_number, done as chain_ends}
 use Rattle.pp_lists.specs.Lists.{ListPass, MayUnlink, list_chain, list_frozen}
 use Rattle.pp_lists.specs.Turns.{ListView, MayPublish, Published, IsBefore, Marks, mark_step, publish_step, marked}
 use Rattle.pp_lists.specs.Losses.{finds, is_effect, has_flag}
 use Rattle.pp_lists.proofs.Losing.{IsIdleKind, onto, finds_append, finds_none, idle_finds, missed_finds, marked_finds}
 use Rattle.pp_lists.proofs.Telling.{or_one, or_same}
 use Rattle.pp_walk.specs.Steps.{MayPublishAt, PublishedAt, LeadsTo}
-use Rattle.pp_walk.specs.Roles.{IsAnchor, IsPlain}
+use Rattle.pp_walk.specs.Roles.{IsAnchor, IsPlain, IsFound, IsEnd, at_nil, at_record, HasChain, no_chain, a_chain}
+use Rattle.pp_walk.specs.declared.walk.Found.{Found}
 use Rattle.pp_walk.specs.Trod.{Quiet, StrikeNone}
 use Rattle.pp_walk.specs.Parts.{plain_link}
 use Rattle.pp_walk.specs.Effects.{Tried, FindIn, MayFill, FillsAt, PublishesSo, MarksNone, MarksOne, MayDetachRun, DetachesSo}
 use Rattle.pp_walk.specs.declared.effects.Taken.{Taken}
 use Rattle.pp_walk.proofs.Counting.{quiet_both, no_effect}
+use Rattle.pp_walk.proofs.Standing.{anchor_on, joined_more}
 use Rattle.pp_walk.proofs.Finding.{plain_target, plain_bits}
 use Rattle.pp_walk.proofs.Here.{read_quiet, read_known}
 
@@ -86,7 +89,7 @@ may_publish z q p anchor end n k v small may f = record {
   where
     source : Place → Source
     source (Head h) = at_head h
-    source (Word i) = at_record (slot q i).named
+    source (Word i) = at_number (slot q i).named
 
     before : (p : Place) → IsAnchor z q k p → IsBefore z q k (source p)
     before (Head h) a = a
@@ -191,7 +194,7 @@ may_unlink z q (Head h) first end m = record {
   joined = subst (λ (n : ℕ). Joined n q.own.chain (target (word_of end))) (sym m.leads) m.joined;
 }
 may_unlink z q (Word i) first end m = record {
-  source = at_record (slot q i).named;
+  source = at_number (slot q i).named;
   own_source = (i, m.anchored.0, m.anchored.1, refl);
   at = refl;
   plain = m.plain_first;
@@ -344,3 +347,68 @@ misses_so z anchor first end l v w sizes few e = let f = may_flush z v e.between
       }));
       past = past;
     }
+
+-- After the mark, what was gathered and the marked record may be detached, up to the record behind it.
+pub may_detach_marked : (z : Sizes) (q : ListPass) (call mark_call : Call) (f : Found) (taken : Taken) (before now : ListView) → before.known ≡ q
+    → IsFound z q call f → target (word_of f.end) ≢ 0 → MarksOne z f.word mark_call taken before now → MayDetachRun z now.known f.anchor f.first taken.next
+may_detach_marked z q call mark_call f taken before now is found real m = by found.end found.chain
+  where
+    each : (j : ℕ) → slot now.known j ≡ slot q j
+    each j = ap (λ (p : ListPass). slot p j) m.known ∙ ap (λ (p : ListPass). slot p j) is
+
+    one : bit_or m.found 1 ≡ m.found + 1
+    one = or_one m.found m.plain
+
+    flag : flag_bit (bit_or m.found 1) ≡ 1
+    flag = ap flag_bit one ∙ (let plain = m.plain in omega arith)
+
+    valid : invalid_bit (bit_or m.found 1) ≡ 0
+    valid = ap invalid_bit one ∙ (let plain = m.plain in let ok = (m.marks.done m.plain).0 in omega arith)
+
+    first_now : (b : Bool) → nat_lt q.own.first 5 ≡ b → now.known.own.first ≡ cond b q.own.first f.word
+    first_now b e = ap (λ (p : ListPass). p.own.first) m.known ∙ (ap (λ (p : ListPass). cond (nat_lt p.own.first 5) p.own.first f.word) is
+        ∙ ap (λ (c : Bool). cond c q.own.first f.word) e)
+
+    chain_now : (b : Bool) → nat_lt q.own.first 5 ≡ b
+        → now.known.own.chain ≡ cond b (q.own.chain ++ record { number = (slot q f.word).named; link = bit_or m.found 1 } ∷ [])
+        (record { number = (slot q f.word).named; link = bit_or m.found 1 } ∷ [])
+    chain_now b e = ap (λ (p : ListPass). p.own.chain) m.known
+        ∙ (ap (λ (p : ListPass). cond (nat_lt p.own.first 5) (p.own.chain ++ record { number = (slot p f.word).named; link = bit_or m.found 1 } ∷ [])
+        (record { number = (slot p f.word).named; link = bit_or m.found 1 } ∷ [])) is
+        ∙ ap (λ (c : Bool). cond c (q.own.chain ++ record { number = (slot q f.word).named; link = bit_or m.found 1 } ∷ [])
+        (record { number = (slot q f.word).named; link = bit_or m.found 1 } ∷ [])) e)
+
+    detach_so : (n : ℕ) (cs : List Gathered) → now.known.own.first ≡ n → now.known.own.chain ≡ cs → n < 5 → cs ≢ [] → target (word_of f.first) ≡ (slot q n).named
+        → Joined (slot q n).named cs (target (bit_or m.found 1)) → MayDetachRun z now.known f.anchor f.first taken.next
+    detach_so n cs first chain low some_made leads joined = record {
+      key = key_of call;
+      anchored = anchor_on z q now.known (key_of call) f.anchor (λ j _. each j) found.anchored;
+      gathered = subst (λ (x : ℕ). x < 5) (sym first) low;
+      some_chain = λ e. some_made (sym chain ∙ e);
+      plain_first = found.plain_first;
+      plain_end = m.next_plain;
+      small_end = m.next_small;
+      leads = leads ∙ ap (λ (s : WalkSlot). s.named) (sym (ap (slot now.known) first ∙ each n));
+      joined = subst (λ (s : WalkSlot). Joined s.named now.known.own.chain (target (word_of taken.next))) (sym (ap (slot now.known) first ∙ each n))
+          (subst (λ (x : List Gathered). Joined (slot q n).named x (target (word_of taken.next))) (sym chain)
+          (subst (λ (x : ℕ). Joined (slot q n).named cs x) (sym m.next_is) joined));
+    }
+
+    by : IsEnd z q (key_of call) f → HasChain q f → MayDetachRun z now.known f.anchor f.first taken.next
+    by (at_nil nil _ _ _) c = absurd (real nil)
+    by (at_record _ low held named high equal apart other at) (no_chain first chain none first_is) =
+        let not_low : nat_lt q.own.first 5 ≡ false = ap (λ (x : ℕ). nat_lt x 5) first in
+        detach_so f.word (record { number = (slot q f.word).named; link = bit_or m.found 1 } ∷ []) (first_now false not_low) (chain_now false not_low) low
+        (λ e. let long : 1 ≡ 0 = ap (λ (l : List Gathered). length l) e in omega arith)
+        (ap (λ (l : Link). target (word_of l)) first_is ∙ sym named)
+        (more (λ e. real (sym named ∙ e)) refl flag valid (chain_ends refl))
+    by (at_record _ low held named high equal apart other at) (a_chain first_low first_held first_apart some_made leads joined count) =
+        let is_low : nat_lt q.own.first 5 ≡ true = Rattle.std.proofs.lemmas.Bool.lt-ltb q.own.first 5 first_low in
+        detach_so q.own.first (q.own.chain ++ record { number = (slot q f.word).named; link = bit_or m.found 1 } ∷ []) (first_now true is_low)
+        (chain_now true is_low) first_low (not_none q.own.chain) leads
+        (joined_more (slot q q.own.first).named q.own.chain record { number = (slot q f.word).named; link = bit_or m.found 1 } (slot q f.word).named
+        (subst (λ (x : ℕ). Joined (slot q q.own.first).named q.own.chain x) (sym named) joined) (λ e. real (sym named ∙ e)) refl flag valid)
+      where
+        not_none : (cs : List Gathered) → cs ++ record { number = (slot q f.word).named; link = bit_or m.found 1 } ∷ [] ≢ []
+        not_none cs e = let long = ap (λ (l : List Gathered). length l) e in
+            let sum = Rattle.std.proofs.Common.length-append cs (record { number = (slot q f.word).named; link = bit_or m.found 1 } ∷ []) in omega arith
