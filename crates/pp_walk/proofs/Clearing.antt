@@ -3,11 +3,10 @@ use Rattle.std.proofs.Common.{◌≡◌, ◌≢◌, ◌⊎◌, inl, inr, ⊎_eli
 use Rattle.std.proofs.Common.{set, refl, sym, ap, ◌∙◌, subst, arith, ne_eqb, true≢false}
 use Rattle.std.specs.Prelude.{◌||◌}
 use Rattle.std.proofs.Math.Decide.{ℕ_discrete}
-use Rattle.std.proofs.Math.Bool.{false≢true}
 use mathlib.Core.Logic.{dite}
 use Rattle.atomic_table.specs.declared.shared.Seat.{Seat}
 use Rattle.pp_link.specs.declared.layout.Sizes.{Sizes}
-use Rattle.pp_base.specs.Passes.{known, view, Fits, IsSame, IsPassOf}
+use Rattle.pp_base.specs.Passes.{known, view, IsSame, IsPassOf}
 use Rattle.pp_rule.specs.declared.views.WalkSlot.{WalkSlot}
 use Rattle.pp_rule.specs.Orders.{clear_step}
 use Rattle.pp_rule.specs.Views.{slot, naming}
@@ -17,7 +16,6 @@ use Rattle.pp_rule.proofs.Made.{known_after}
 use Rattle.pp_base.specs.Named.{clears}
 use Rattle.pp_base.proofs.Named.{plain_one}
 use Rattle.pp_lists.specs.declared.own.ListOwn.{ListOwn}
-use Rattle.pp_lists.specs.declared.own.Gathered.{Gathered}
 use Rattle.pp_lists.specs.Lists.{ListPass, list_forget}
 use Rattle.pp_lists.specs.Turns.{ListView}
 use Rattle.pp_walk.specs.Words.{IsEmpty, Cleared, is_kept, SameCallOf, SameRest}

@@ -1,5 +1,5 @@
 -- A try to hold the next record, over its steps.
-use Rattle.std.proofs.Common.{◌≡◌, ◌≢◌, inl, inr, ℕ, ◌+◌, ◌<◌, ◌≤◌, Bool, true, false, cond, nat_eq, List, [], ◌∷◌, ◌++◌}
+use Rattle.std.proofs.Common.{◌≡◌, ◌≢◌, inl, inr, ℕ, ◌+◌, ◌<◌, Bool, true, false, cond, nat_eq, List, [], ◌∷◌}
 use Rattle.std.proofs.Common.{length, set, refl, sym, ap, ◌∙◌, subst, arith, ne_eqb}
 use Rattle.pp_link.specs.declared.layout.Sizes.{Sizes}
 use Rattle.pp_link.specs.Links.{target, invalid_bit}
@@ -17,10 +17,9 @@ use Rattle.pp_base.specs.declared.source.Place.{Place}
 use Rattle.pp_base.specs.declared.source.Place.TheVariants.{Head, Walk as Word}
 use Rattle.pp_base.specs.declared.source.Side.TheVariants.{Left}
 use Rattle.pp_base.specs.Sources.{source_place, IsReadable}
-use Rattle.pp_base.specs.Named.{NamedStep, announces, confirms, clears, MadeOne}
+use Rattle.pp_base.specs.Named.{announces, confirms, clears, MadeOne}
 use Rattle.pp_base.proofs.Named.{plain_one}
 use Rattle.pp_lists.specs.declared.own.ListOwn.{ListOwn}
-use Rattle.pp_lists.specs.declared.own.Gathered.{Gathered}
 use Rattle.pp_lists.specs.Walks.{bucket, Joined}
 use Rattle.pp_lists.specs.Lists.{ListPass, list_forget}
 use Rattle.pp_lists.specs.Turns.{ListView, StandsAt, Came, standing}
@@ -28,8 +27,8 @@ use Rattle.pp_lists.proofs.Losing.{confirmed_finds, moved_finds}
 use Rattle.pp_walk.specs.declared.walk.Walk.{Walk}
 use Rattle.pp_walk.specs.Words.{IsEmpty, Cleared, SameCallOf, SameRest}
 use Rattle.pp_walk.specs.Roles.{Walking, StandsOn, lower_of}
-use Rattle.pp_walk.specs.Trod.{Quiet, RestOfTurn}
-use Rattle.pp_walk.specs.Parts.{Holds, HoldsNext, LosesNext, word_in}
+use Rattle.pp_walk.specs.Trod.{Quiet}
+use Rattle.pp_walk.specs.Parts.{HoldsNext, LosesNext, word_in}
 use Rattle.pp_walk.proofs.Counting.{writes_one, writes_none, rest_quiet, same_through, rest_through, rest_of}
 use Rattle.pp_walk.proofs.Standing.{Standing, standing_of, standing_on, walking_on, stands_at, readable, holds_next}
 
@@ -162,11 +161,20 @@ module _ (z : Sizes) (v v1 : ListView) (walk : Walk) (w n p : ℕ) (five : lengt
           record { number = refl; sizes = refl; owned = refl; retired_are = refl; frontier = refl; chains = refl; scan = refl })) c.rest;
       turn = rest_quiet 0 0 0 refl (source_place z v.known walk.at Left) first v v2 u record {
         steps = announces p (target first) ∷ confirms (source_place z v.known walk.at Left) first ∷ [];
-        did = (v1, (subst (λ (m : ℕ). MadeOne (announces p m) v v1) n_is did_1, (v2, (
-          subst (λ (k : ℕ). MadeOne (confirms k first) v1 v2) (place_is ∙ place_1) (subst (λ (x : ℕ). MadeOne (confirms place x) v1 v2) hit
-              (plain_one (confirms place found) (standing w (target first) key value v1.known) v1 v2 refl refl (came.same hit).1.2)),
-          refl,
-        ))));
+        did = (
+          v1,
+          (
+            subst (λ (m : ℕ). MadeOne (announces p m) v v1) n_is did_1,
+            (
+              v2,
+              (
+                subst (λ (k : ℕ). MadeOne (confirms k first) v1 v2) (place_is ∙ place_1) (subst (λ (x : ℕ). MadeOne (confirms place x) v1 v2) hit
+                    (plain_one (confirms place found) (standing w (target first) key value v1.known) v1 v2 refl refl (came.same hit).1.2)),
+                refl,
+              ),
+            ),
+          ),
+        );
         loses = λ sizes earlier. confirmed_finds sizes earlier (source_place z v.known walk.at Left) first (target first) p valid;
         writes = writes_one (announces p (target first)) (confirms (source_place z v.known walk.at Left) first ∷ []) refl
             (writes_one (confirms (source_place z v.known walk.at Left) first) [] refl writes_none);
@@ -220,11 +228,20 @@ module _ (z : Sizes) (v v1 : ListView) (walk : Walk) (w n p : ℕ) (five : lengt
           record { number = refl; sizes = refl; owned = refl; retired_are = refl; frontier = refl; chains = refl; scan = refl }));
       turn = record {
         steps = announces p (target first) ∷ confirms (source_place z v.known walk.at Left) found ∷ clears p ∷ [];
-        did = (v1, (subst (λ (m : ℕ). MadeOne (announces p m) v v1) n_is did_1, (v2, (
-          subst (λ (k : ℕ). MadeOne (confirms k found) v1 v2) (place_is ∙ place_1)
-              (plain_one (confirms place found) v1.known v1 v2 refl refl (came.other miss)),
-          (v3, (plain_one (clears p) (clearing list_forget w v2.known) v2 v3 refl refl cleared, refl)),
-        ))));
+        did = (
+          v1,
+          (
+            subst (λ (m : ℕ). MadeOne (announces p m) v v1) n_is did_1,
+            (
+              v2,
+              (
+                subst (λ (k : ℕ). MadeOne (confirms k found) v1 v2) (place_is ∙ place_1)
+                    (plain_one (confirms place found) v1.known v1 v2 refl refl (came.other miss)),
+                (v3, (plain_one (clears p) (clearing list_forget w v2.known) v2 v3 refl refl cleared, refl)),
+              ),
+            ),
+          ),
+        );
         loses = λ sizes earlier. moved_finds sizes earlier (source_place z v.known walk.at Left) first found (target first) p p valid miss;
         writes = writes_one (announces p (target first)) (confirms (source_place z v.known walk.at Left) found ∷ clears p ∷ []) refl
             (writes_one (confirms (source_place z v.known walk.at Left) found) (clears p ∷ []) refl

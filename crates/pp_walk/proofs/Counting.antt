@@ -1,17 +1,15 @@
 -- How the parts of a turn count, and what they leave of a pass.
-use Rattle.std.proofs.Common.{◌≡◌, ◌≢◌, ⊎_elim, ℕ, ◌+◌, ◌<◌, ◌≤◌, Bool, true, false, nat_eq, List, [], ◌∷◌, ◌++◌}
-use Rattle.std.proofs.Common.{append-nil, refl, sym, ap, ◌∙◌, subst, arith, ne_eqb, true≢false}
+use Rattle.std.proofs.Common.{◌≡◌, ⊎_elim, ℕ, ◌+◌, Bool, true, false, nat_eq, List, [], ◌∷◌, ◌++◌}
+use Rattle.std.proofs.Common.{refl, sym, ap, ◌∙◌, subst, arith, ne_eqb, true≢false}
 use Rattle.std.specs.Prelude.{◌&&◌, ◌||◌, not}
-use Rattle.pp_model.specs.Pass.{MapSizes}
-use Rattle.pp_rule.specs.Lists.{IsIn}
 use Rattle.pp_rule.proofs.Put.{in_nil, in_cases, in_one, in_either}
-use Rattle.pp_base.specs.Named.{NamedStep, loads, MadeOne, Made}
+use Rattle.pp_base.specs.Named.{NamedStep, loads, MadeOne}
 use Rattle.pp_base.proofs.Named.{made_append}
 use Rattle.pp_calls.specs.PoolViews.{is_writing}
 use Rattle.pp_lists.specs.declared.own.ListOwn.{ListOwn}
 use Rattle.pp_lists.specs.Lists.{ListPass}
 use Rattle.pp_lists.specs.Turns.{ListView}
-use Rattle.pp_lists.specs.Losses.{has_flag, finds, is_effect}
+use Rattle.pp_lists.specs.Losses.{has_flag, is_effect}
 use Rattle.pp_lists.proofs.Losing.{IsIdleKind, onto, finds_append, finds_none, idle_finds}
 use Rattle.pp_walk.specs.Words.{SameCallOf, SameRest}
 use Rattle.pp_walk.specs.Trod.{Quiet, RestOfTurn, WriteNoLink, StrikeNone, FindSo}

@@ -7,14 +7,13 @@ use mathlib.Core.Logic.{dite}
 use Rattle.pp_link.specs.declared.layout.Sizes.{Sizes}
 use Rattle.pp_link.specs.declared.link.Link.{Link}
 use Rattle.pp_link.specs.Links.{target, flag_bit, invalid_bit, word_of, bit}
-use Rattle.pp_link.specs.Places.{head_place, cell_place, frontier_place}
+use Rattle.pp_link.specs.Places.{cell_place, frontier_place}
 use Rattle.pp_link.proofs.Packing.{bit_small}
 use Rattle.pp_model.specs.declared.Call.{Call}
-use Rattle.pp_model.specs.Pass.{MapSizes}
 use Rattle.pp_model.specs.Calls.{key_of}
 use Rattle.pp_rule.specs.declared.views.WalkSlot.{WalkSlot}
 use Rattle.pp_rule.specs.Lists.{IsIn}
-use Rattle.pp_rule.specs.Orders.{load_step, read_step, missed_step}
+use Rattle.pp_rule.specs.Orders.{missed_step}
 use Rattle.pp_rule.specs.Views.{slot, value_of}
 use Rattle.pp_rule.specs.States.{IsSmall}
 use Rattle.pp_rule.specs.Steps.{MadeQuietStep, ReadField}
@@ -27,28 +26,25 @@ use Rattle.pp_base.specs.declared.source.Side.TheVariants.{Left}
 use Rattle.pp_base.specs.Sources.{source_place, IsReadable}
 use Rattle.pp_base.specs.Named.{NamedStep, misses, guards, unguards, detaches, invalidates, retires, MadeOne, Made}
 use Rattle.pp_base.proofs.Named.{plain_one, made_append}
-use Rattle.pp_calls.specs.PoolViews.{is_writing}
-use Rattle.pp_unlink.specs.Invalidation.{Flushed, Invalidated, invalidations}
-use Rattle.pp_unlink.specs.Unlinking.{MayFlush, Exchanges, Misses, Unlinks}
-use Rattle.pp_unlink.specs.declared.unlinking.Unlink.{Unlink}
+use Rattle.pp_unlink.specs.Invalidation.{Flushed, invalidations}
+use Rattle.pp_unlink.specs.Unlinking.{MayFlush, Exchanges, Misses}
 use Rattle.pp_unlink.specs.declared.unlinking.Unlink.TheVariants.{Detached, Changed}
-use Rattle.pp_lists.specs.declared.own.ListOwn.{ListOwn}
 use Rattle.pp_lists.specs.declared.own.Gathered.{Gathered}
 use Rattle.pp_lists.specs.Walks.{Source, at_head, Joined, more, bucket}
 use Rattle.pp_lists.specs.Walks.{at_record as at_number, done as chain_ends}
 use Rattle.pp_lists.specs.Lists.{ListPass, MayUnlink, list_chain, list_frozen}
-use Rattle.pp_lists.specs.Turns.{ListView, MayPublish, Published, IsBefore, Marks, mark_step, publish_step, marked}
-use Rattle.pp_lists.specs.Losses.{finds, is_effect, has_flag}
-use Rattle.pp_lists.proofs.Losing.{IsIdleKind, onto, finds_append, finds_none, idle_finds, missed_finds, marked_finds}
+use Rattle.pp_lists.specs.Turns.{ListView, IsBefore, Marks, mark_step, marked}
+use Rattle.pp_lists.specs.Losses.{is_effect}
+use Rattle.pp_lists.proofs.Losing.{IsIdleKind, onto, finds_append, idle_finds, missed_finds, marked_finds}
 use Rattle.pp_lists.proofs.Telling.{or_one, or_same}
-use Rattle.pp_walk.specs.Steps.{MayPublishAt, PublishedAt, LeadsTo}
+use Rattle.pp_walk.specs.Steps.{MayPublishAt, PublishedAt}
 use Rattle.pp_walk.specs.Roles.{IsAnchor, IsPlain, IsFound, IsEnd, at_nil, at_record, HasChain, no_chain, a_chain}
 use Rattle.pp_walk.specs.declared.walk.Found.{Found}
-use Rattle.pp_walk.specs.Trod.{Quiet, StrikeNone}
+use Rattle.pp_walk.specs.Trod.{StrikeNone}
 use Rattle.pp_walk.specs.Parts.{plain_link}
-use Rattle.pp_walk.specs.Effects.{Tried, FindIn, MayFill, FillsAt, PublishesSo, MarksNone, MarksOne, MayDetachRun, DetachesSo}
+use Rattle.pp_walk.specs.Effects.{Tried, MayFill, FillsAt, PublishesSo, MarksNone, MarksOne, MayDetachRun, DetachesSo}
 use Rattle.pp_walk.specs.declared.effects.Taken.{Taken}
-use Rattle.pp_walk.proofs.Counting.{quiet_both, no_effect}
+use Rattle.pp_walk.proofs.Counting.{quiet_both}
 use Rattle.pp_walk.proofs.Standing.{anchor_on, joined_more}
 use Rattle.pp_walk.proofs.Finding.{plain_target, plain_bits}
 use Rattle.pp_walk.proofs.Here.{read_quiet, read_known}
@@ -289,12 +285,16 @@ detaches_so z anchor first end v w sizes few e = let f = may_flush z v e.between
       unlinks = e;
       own = ap (λ (q : ListPass). q.own) e.known ∙ f.own;
       owned = ap (λ (q : ListPass). q.owned) e.known ∙ f.owned;
-      hit = λ _. (refl, ap (λ (q : ListPass). q.walk) e.known ∙ f.walk, tried_idle (f.steps ++ g ∷ d ∷ []) v w
-          (made_append f.steps (g ∷ d ∷ []) v e.between w f.did e.steps)
-          (idling_both f.steps (g ∷ d ∷ []) f.idling
-          (idling_one g (d ∷ []) record { load = λ e. omega arith; confirm = λ e. omega arith; miss = λ e. omega arith; mark = λ e. omega arith } refl
-          (idling_one d [] record { load = λ e. omega arith; confirm = λ e. omega arith; miss = λ e. omega arith; mark = λ e. omega arith } refl
-          idling_none))));
+      hit = λ _. (
+        refl,
+        ap (λ (q : ListPass). q.walk) e.known ∙ f.walk,
+        tried_idle (f.steps ++ g ∷ d ∷ []) v w
+            (made_append f.steps (g ∷ d ∷ []) v e.between w f.did e.steps)
+            (idling_both f.steps (g ∷ d ∷ []) f.idling
+            (idling_one g (d ∷ []) record { load = λ e. omega arith; confirm = λ e. omega arith; miss = λ e. omega arith; mark = λ e. omega arith } refl
+            (idling_one d [] record { load = λ e. omega arith; confirm = λ e. omega arith; miss = λ e. omega arith; mark = λ e. omega arith } refl
+            idling_none))),
+      );
       missed = λ bad. absurd (true≢false bad);
       past = subst (λ (y : Sizes). 17 * y.passes < source_place z v.known anchor Left) (sym sizes) (anchor_past z v.known anchor);
     }
@@ -328,23 +328,29 @@ misses_so z anchor first end l v w sizes few e = let f = may_flush z v e.between
       own = ap (λ (q : ListPass). q.own) e.known ∙ (known.0 ∙ f.own);
       owned = ap (λ (q : ListPass). q.owned) e.known ∙ (known.1 ∙ f.owned);
       hit = λ bad. absurd (true≢false (sym bad));
-      missed = λ _. (l, (refl, record {
-        steps = f.steps ++ (g ∷ m ∷ u ∷ []);
-        did = made_append f.steps (g ∷ m ∷ u ∷ []) v e.between w f.did e.steps;
-        loses = λ sizes earlier same. let a = finds_append sizes earlier f.steps (g ∷ m ∷ u ∷ []) in
-            let none = idle_finds sizes earlier f.steps f.idling.idle in let seen : List NamedStep = onto f.steps earlier in
-            let b = finds_append sizes seen (g ∷ []) (m ∷ u ∷ []) in
-            let c = idle_finds sizes seen (g ∷ []) (λ t i. before.idle t (Rattle.pp_rule.proofs.Put.in_right t f.steps (g ∷ []) i)) in
-            let d = finds_append sizes (g ∷ seen) (m ∷ []) (u ∷ []) in
-            let x = missed_finds sizes (g ∷ seen) place (word_of l) (subst (λ (n : ℕ). 17 * n < place) (sym same) past) in
-            let y = idle_finds sizes (m ∷ g ∷ seen) (u ∷ []) after.idle in omega arith;
-        strikes = λ t i. Rattle.std.proofs.Common.⊎_elim (λ (j : IsIn t f.steps). f.idling.none t j)
-            (λ (j : IsIn t (g ∷ m ∷ u ∷ [])). Rattle.std.proofs.Common.⊎_elim
-            (λ (x : t ≡ g). subst (λ (y : NamedStep). is_effect y ≡ false) (sym x) refl)
-            (λ (k : IsIn t (m ∷ u ∷ [])). Rattle.std.proofs.Common.⊎_elim
-            (λ (x : t ≡ m). subst (λ (y : NamedStep). is_effect y ≡ false) (sym x) refl) (after.none t)
-            (in_cases t m (u ∷ []) k)) (in_cases t g (m ∷ u ∷ []) j)) (in_either t f.steps (g ∷ m ∷ u ∷ []) i);
-      }));
+      missed = λ _. (
+        l,
+        (
+          refl,
+          record {
+            steps = f.steps ++ (g ∷ m ∷ u ∷ []);
+            did = made_append f.steps (g ∷ m ∷ u ∷ []) v e.between w f.did e.steps;
+            loses = λ sizes earlier same. let a = finds_append sizes earlier f.steps (g ∷ m ∷ u ∷ []) in
+                let none = idle_finds sizes earlier f.steps f.idling.idle in let seen : List NamedStep = onto f.steps earlier in
+                let b = finds_append sizes seen (g ∷ []) (m ∷ u ∷ []) in
+                let c = idle_finds sizes seen (g ∷ []) (λ t i. before.idle t (Rattle.pp_rule.proofs.Put.in_right t f.steps (g ∷ []) i)) in
+                let d = finds_append sizes (g ∷ seen) (m ∷ []) (u ∷ []) in
+                let x = missed_finds sizes (g ∷ seen) place (word_of l) (subst (λ (n : ℕ). 17 * n < place) (sym same) past) in
+                let y = idle_finds sizes (m ∷ g ∷ seen) (u ∷ []) after.idle in omega arith;
+            strikes = λ t i. Rattle.std.proofs.Common.⊎_elim (λ (j : IsIn t f.steps). f.idling.none t j)
+                (λ (j : IsIn t (g ∷ m ∷ u ∷ [])). Rattle.std.proofs.Common.⊎_elim
+                (λ (x : t ≡ g). subst (λ (y : NamedStep). is_effect y ≡ false) (sym x) refl)
+                (λ (k : IsIn t (m ∷ u ∷ [])). Rattle.std.proofs.Common.⊎_elim
+                (λ (x : t ≡ m). subst (λ (y : NamedStep). is_effect y ≡ false) (sym x) refl) (after.none t)
+                (in_cases t m (u ∷ []) k)) (in_cases t g (m ∷ u ∷ []) j)) (in_either t f.steps (g ∷ m ∷ u ∷ []) i);
+          },
+        ),
+      );
       past = past;
     }
 

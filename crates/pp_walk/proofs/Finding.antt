@@ -1,5 +1,5 @@
 -- What a walk found.
-use Rattle.std.proofs.Common.{◌≡◌, ◌≢◌, inl, inr, ℕ, ◌+◌, ◌*◌, ◌/◌, ◌%◌, ◌<◌, ◌≤◌, Bool, true, false, cond, nat_eq, nat_lt, List, [], ◌∷◌, length}
+use Rattle.std.proofs.Common.{◌≡◌, ◌≢◌, inl, inr, ℕ, ◌+◌, ◌%◌, ◌<◌, ◌≤◌, Bool, true, false, cond, nat_eq, nat_lt, List, [], ◌∷◌, length}
 use Rattle.std.proofs.Common.{Option, Some, None, refl, sym, ap, ◌∙◌, subst, arith, true≢false, eq-eqb, ne_eqb}
 use Rattle.std.specs.Prelude.{min, not}
 use Rattle.std.proofs.Math.Decide.{ℕ_discrete}
@@ -8,13 +8,9 @@ use Rattle.pp_link.specs.declared.layout.Sizes.{Sizes}
 use Rattle.pp_link.specs.declared.link.Link.{Link}
 use Rattle.pp_link.specs.Links.{target, word_of, flag_bit}
 use Rattle.pp_model.specs.declared.Call.{Call}
-use Rattle.pp_model.specs.Calls.{key_of, reply_at, changes}
-use Rattle.pp_rule.specs.declared.views.WalkSlot.{WalkSlot}
-use Rattle.pp_rule.specs.declared.views.Halves.{Halves}
+use Rattle.pp_model.specs.Calls.{key_of}
 use Rattle.pp_rule.specs.Views.{slot, value_of}
-use Rattle.pp_base.specs.declared.source.Place.{Place}
-use Rattle.pp_base.specs.declared.source.Place.TheVariants.{Head, Walk as Word}
-use Rattle.pp_lists.specs.declared.own.ListOwn.{ListOwn}
+use Rattle.pp_base.specs.declared.source.Place.TheVariants.{Walk as Word}
 use Rattle.pp_lists.specs.declared.own.Gathered.{Gathered}
 use Rattle.pp_lists.specs.Walks.{Joined}
 use Rattle.pp_lists.specs.Lists.{ListPass}
@@ -169,8 +165,14 @@ module _ (z : Sizes) (q : ListPass) (call : Call) (f : Found) (found : IsFound z
     where
       by : IsEnd z q (key_of call) f → EndsPast q (key_of call) (word_of f.end)
       by (at_nil nil _ _ _) = inl nil
-      by (at_record real low held named high equal _ _ _) = inr (f.word, low, held, named, (let ne : (slot q f.word).key ≢ key_of call =
-          (λ e. true≢false (sym (eq-eqb (slot q f.word).key (key_of call) e) ∙ (sym equal ∙ other))) in omega arith))
+      by (at_record real low held named high equal _ _ _) = inr (
+        f.word,
+        low,
+        held,
+        named,
+        (let ne : (slot q f.word).key ≢ key_of call =
+            (λ e. true≢false (sym (eq-eqb (slot q f.word).key (key_of call) e) ∙ (sym equal ∙ other))) in omega arith),
+      )
 
   chains_found : Chains q f.anchor
   chains_found = by found.chain

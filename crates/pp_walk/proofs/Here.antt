@@ -3,7 +3,7 @@ use Rattle.std.proofs.Common.{◌≡◌, ◌≢◌, inl, inr, ℕ, ◌+◌, ◌^
 use Rattle.std.proofs.Common.{set, refl, sym, ap, ◌∙◌, subst, arith}
 use Rattle.std.specs.Prelude.{◌&&◌}
 use Rattle.pp_link.specs.declared.layout.Sizes.{Sizes}
-use Rattle.pp_link.specs.Links.{target, invalid_bit, flag_bit}
+use Rattle.pp_link.specs.Links.{invalid_bit, flag_bit}
 use Rattle.pp_model.specs.declared.Call.{Call}
 use Rattle.pp_model.specs.declared.Placed.{Placed}
 use Rattle.pp_model.specs.Calls.{key_of, reply_at, changes}
@@ -15,10 +15,10 @@ use Rattle.pp_rule.specs.Steps.{MadeQuietStep, with_walk, ReadField, LoadedLink}
 use Rattle.pp_rule.proofs.Slots.{slot_here, slot_else}
 use Rattle.pp_rule.proofs.Made.{known_after}
 use Rattle.pp_base.specs.declared.source.Place.{Place}
-use Rattle.pp_base.specs.declared.source.Place.TheVariants.{Head, Walk as Word}
+use Rattle.pp_base.specs.declared.source.Place.TheVariants.{Walk as Word}
 use Rattle.pp_base.specs.declared.source.Side.TheVariants.{Left}
 use Rattle.pp_base.specs.Sources.{learning_at}
-use Rattle.pp_base.specs.Named.{NamedStep, loads, MadeOne}
+use Rattle.pp_base.specs.Named.{NamedStep, loads}
 use Rattle.pp_base.proofs.Named.{plain_one}
 use Rattle.pp_lists.specs.declared.own.ListOwn.{ListOwn}
 use Rattle.pp_lists.specs.declared.own.Gathered.{Gathered}
@@ -32,8 +32,8 @@ use Rattle.pp_walk.specs.declared.walk.Came.TheVariants.{Moved, Broken, Anchors,
 use Rattle.pp_walk.specs.Words.{IsEmpty, Cleared, SameCallOf, SameRest}
 use Rattle.pp_walk.specs.Roles.{is_look}
 use Rattle.pp_walk.specs.Trod.{Quiet}
-use Rattle.pp_walk.specs.Turns.{Answers, RepliedTo}
-use Rattle.pp_walk.specs.Parts.{Holds, SameOf, CameHere, Stopped, EndsAt, SameGathered, SameKey, AnchorsAt, GathersAt}
+use Rattle.pp_walk.specs.Turns.{Answers}
+use Rattle.pp_walk.specs.Parts.{Holds, SameOf, CameHere, Stopped, EndsAt, GathersAt}
 use Rattle.pp_walk.proofs.Counting.{quiet_one, quiet_both, quiet_idle, same_through, rest_through, same_self, rest_self}
 use Rattle.pp_walk.proofs.Standing.{holds_learnt, anchors_at, begins_again, chains_held, gathers_at, gathers_key, anchor_on}
 
@@ -93,8 +93,13 @@ here_after z walk w v v1 u (Gathers i) is quiet c = (
 )
 here_after z walk w v v1 u (Ends i key link) is quiet c = (
   same_of v v1 u (same_known v v1 is) c.0,
-  (c.1.0, (quiet_both 0 0 0 refl v v1 c.1.0 quiet c.1.1.0,
-  subst (λ (q : ListPass). EndsAt z walk.call walk.anchor i key link q.own c.1.0 u) is c.1.1.1)),
+  (
+    c.1.0,
+    (
+      quiet_both 0 0 0 refl v v1 c.1.0 quiet c.1.1.0,
+      subst (λ (q : ListPass). EndsAt z walk.call walk.anchor i key link q.own c.1.0 u) is c.1.1.1,
+    ),
+  ),
 )
 
 -- The walk stops at the record, whatever becomes of the call.
@@ -243,15 +248,18 @@ module _ (z : Sizes) (walk : Walk) (w : ℕ) (v : ListView) (h : Holds z v.known
               calls = calls;
               ends = record { known = with_own (resting v.known.own) v.known; number = refl; made = s.made };
               answers = subst (λ (a : Option ℕ). Answers v.known.own a calls u) (found_is u.known each) record {
-                settled = λ _. (ap (λ (q : ListPass). q.own.going) is, record {
-                  at = s.at;
-                  since = s.since;
-                  within = s.within;
-                  right = s.right;
-                  least = s.least;
-                  calls_are = refl;
-                  stands = s.stands;
-                });
+                settled = λ _. (
+                  ap (λ (q : ListPass). q.own.going) is,
+                  record {
+                    at = s.at;
+                    since = s.since;
+                    within = s.within;
+                    right = s.right;
+                    least = s.least;
+                    calls_are = refl;
+                    stands = s.stands;
+                  },
+                );
                 goes_on = λ d. absurd (Rattle.std.proofs.Common.true≢false (sym d ∙ c));
               };
             },

@@ -1,5 +1,5 @@
 -- The first load of a turn.
-use Rattle.std.proofs.Common.{◌≡◌, ◌≢◌, inl, inr, ℕ, ◌+◌, ◌<◌, ◌≤◌, Bool, true, false, List, [], ◌∷◌, ◌++◌, length, Option, None}
+use Rattle.std.proofs.Common.{◌≡◌, ℕ, ◌+◌, ◌≤◌, Bool, true, false, List, [], ◌∷◌, ◌++◌, length, None}
 use Rattle.std.proofs.Common.{refl, sym, ap, ◌∙◌, subst, arith, append_assoc, length-append}
 use Rattle.std.specs.Prelude.{min}
 use Rattle.std.proofs.Math.Decide.{ℕ_discrete}
@@ -14,26 +14,24 @@ use Rattle.pp_model.specs.Calls.{key_of, reply_at, changes}
 use Rattle.pp_model.specs.MapCalls.{placed}
 use Rattle.pp_rule.specs.declared.views.WalkSlot.{WalkSlot}
 use Rattle.pp_rule.specs.Orders.{log_of, load_step, made_by}
-use Rattle.pp_rule.specs.Views.{slot, blank}
+use Rattle.pp_rule.specs.Views.{blank}
 use Rattle.pp_rule.specs.Steps.{MadeStep}
-use Rattle.pp_rule.specs.Lists.{BeginsWith}
-use Rattle.pp_rule.proofs.Made.{known_after, seen_begins, steps_after}
+use Rattle.pp_rule.proofs.Made.{seen_begins, steps_after}
 use Rattle.pp_base.specs.declared.source.Place.{Place}
 use Rattle.pp_base.specs.declared.source.Place.TheVariants.{Head, Walk as Word}
 use Rattle.pp_base.specs.declared.source.Side.TheVariants.{Left}
 use Rattle.pp_base.specs.Sources.{source_place}
 use Rattle.pp_calls.specs.Steps.{Stepped}
 use Rattle.pp_lists.specs.declared.own.ListOwn.{ListOwn}
-use Rattle.pp_lists.specs.Walks.{bucket, Joined}
 use Rattle.pp_lists.specs.Lists.{ListPass}
 use Rattle.pp_lists.specs.Turns.{ListView, with_own, resting, Reached, IsNil, beginning, Begins}
 use Rattle.pp_walk.specs.declared.walk.Walk.{Walk}
-use Rattle.pp_walk.specs.Words.{IsEmpty, AllEmpty}
-use Rattle.pp_walk.specs.Roles.{IsAnchor, HasGathered, nothing, chained, StandsOn, Walking, IsWalk, IsUnder, Counts, is_look, most}
+use Rattle.pp_walk.specs.Words.{IsEmpty}
+use Rattle.pp_walk.specs.Roles.{IsAnchor, HasGathered, nothing, chained, StandsOn, Walking, IsWalk, IsUnder}
 use Rattle.pp_walk.specs.Trod.{FirstSaw}
-use Rattle.pp_walk.specs.Turns.{From, Starts}
+use Rattle.pp_walk.specs.Turns.{From}
 use Rattle.pp_walk.specs.Parts.{LoadsFirst}
-use Rattle.pp_walk.proofs.Standing.{standing_of, stands_at, readable, leads_next}
+use Rattle.pp_walk.proofs.Standing.{leads_next}
 
 -- A walk depends on the walk words and the list's part alone.
 pub walks_as : (z : Sizes) (q r : ListPass) (call : Call) (at anchor : Place) → r.walk ≡ q.walk → r.own ≡ q.own → Walking z q call at anchor

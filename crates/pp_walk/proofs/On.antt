@@ -1,5 +1,5 @@
 -- A turn after its first load comes together.
-use Rattle.std.proofs.Common.{◌≡◌, ◌≢◌, ℕ, ◌+◌, ◌^◌, ◌<◌, ◌≤◌, Bool, true, false, cond, nat_lt, List, [], ◌∷◌, ◌++◌, length, Option}
+use Rattle.std.proofs.Common.{◌≡◌, ℕ, ◌+◌, ◌^◌, ◌<◌, ◌≤◌, true, false, cond, nat_lt, List, [], ◌∷◌, length, Option}
 use Rattle.std.proofs.Common.{refl, sym, ap, ◌∙◌, subst, arith}
 use Rattle.pp_link.specs.declared.layout.Sizes.{Sizes}
 use Rattle.pp_model.specs.declared.Call.{Call}
@@ -9,8 +9,6 @@ use Rattle.pp_model.specs.History.{after}
 use Rattle.pp_model.specs.MapCalls.{placed}
 use Rattle.pp_rule.specs.Orders.{log_of}
 use Rattle.pp_rule.specs.Views.{slot}
-use Rattle.pp_base.specs.declared.source.Place.{Place}
-use Rattle.pp_base.specs.declared.source.Place.TheVariants.{Head, Walk as Word}
 use Rattle.pp_lists.specs.declared.own.ListOwn.{ListOwn}
 use Rattle.pp_lists.specs.Walks.{IsRight}
 use Rattle.pp_lists.specs.Turns.{ListView}
@@ -21,7 +19,7 @@ use Rattle.pp_walk.specs.Words.{Cleared, SameCallOf}
 use Rattle.pp_walk.specs.Roles.{is_look, lower_of}
 use Rattle.pp_walk.specs.Trod.{Quiet}
 use Rattle.pp_walk.specs.Turns.{Answers, RepliedTo}
-use Rattle.pp_walk.specs.Parts.{HoldsNext, LosesNext, CameHere, CameOn, SameOf, GathersAt, EndsAt}
+use Rattle.pp_walk.specs.Parts.{HoldsNext, LosesNext, CameHere, CameOn}
 use Rattle.pp_walk.proofs.Counting.{rest_quiet}
 use Rattle.pp_walk.proofs.Standing.{begins_again, chains_of}
 use Rattle.pp_walk.proofs.Here.{same_of}
@@ -80,14 +78,20 @@ on_held z walk w place first v u t (Gathers i) h c = let up = h.rises in let key
 )
 on_held z walk w place first v u t (Ends i key link) h c = let last = c.1.0 in let e = c.1.1.1 in (
   same_of v u t record { same = h.same; rest = h.rest } c.0,
-  (last, (rest_quiet 0 0 0 refl place first v u last h.turn c.1.1.0, record {
-    stopped = e.stopped;
-    gathered = record { first = e.gathered.first ∙ h.gathered.first; chain = e.gathered.chain ∙ h.gathered.chain };
-    place = e.place;
-    calls = e.calls;
-    ends = e.ends;
-    answers = answers_as v.known.own u.known.own _ e.calls t h.same e.answers;
-  })),
+  (
+    last,
+    (
+      rest_quiet 0 0 0 refl place first v u last h.turn c.1.1.0,
+      record {
+        stopped = e.stopped;
+        gathered = record { first = e.gathered.first ∙ h.gathered.first; chain = e.gathered.chain ∙ h.gathered.chain };
+        place = e.place;
+        calls = e.calls;
+        ends = e.ends;
+        answers = answers_as v.known.own u.known.own _ e.calls t h.same e.answers;
+      },
+    ),
+  ),
 )
 
 -- The link moved under a get.

@@ -1,6 +1,6 @@
 -- The roles of the walk words, over the steps of a turn.
-use Rattle.std.proofs.Common.{◌≡◌, ◌≢◌, ◌⊎◌, inl, inr, ⊎_elim, ℕ, ◌+◌, ◌<◌, ◌≤◌, Bool, true, false, cond, nat_eq, nat_lt, List, [], ◌∷◌, ◌++◌}
-use Rattle.std.proofs.Common.{length, set, refl, sym, ap, ◌∙◌, subst, arith, ne_eqb, eq-eqb, true≢false, ltb, ltb-true, length-append}
+use Rattle.std.proofs.Common.{◌≡◌, ◌≢◌, ◌⊎◌, inl, inr, ℕ, ◌+◌, ◌<◌, ◌≤◌, Bool, true, false, cond, List, [], ◌∷◌, ◌++◌}
+use Rattle.std.proofs.Common.{length, set, refl, sym, ap, ◌∙◌, subst, arith, true≢false, ltb, ltb-true, length-append}
 use Rattle.std.proofs.Math.Decide.{ℕ_discrete}
 use mathlib.Core.Logic.{dite}
 use Rattle.pp_link.specs.declared.layout.Sizes.{Sizes}
@@ -10,7 +10,7 @@ use Rattle.pp_model.specs.declared.Call.{Call}
 use Rattle.pp_model.specs.Calls.{key_of}
 use Rattle.pp_rule.specs.declared.views.WalkSlot.{WalkSlot}
 use Rattle.pp_rule.specs.declared.views.Halves.{Halves}
-use Rattle.pp_rule.specs.Views.{slot, naming}
+use Rattle.pp_rule.specs.Views.{slot}
 use Rattle.pp_rule.specs.Steps.{holding}
 use Rattle.pp_rule.specs.Lists.{IsIn}
 use Rattle.pp_rule.proofs.Slots.{slot_here, slot_else}
@@ -22,9 +22,8 @@ use Rattle.pp_lists.specs.declared.own.ListOwn.{ListOwn}
 use Rattle.pp_lists.specs.declared.own.Gathered.{Gathered}
 use Rattle.pp_lists.specs.Walks.{bucket, Joined, done, more}
 use Rattle.pp_lists.specs.Lists.{ListPass}
-use Rattle.pp_lists.specs.Turns.{StandsAt, FindsLearnt, gathering, anchored}
+use Rattle.pp_lists.specs.Turns.{StandsAt, FindsLearnt, gathering}
 use Rattle.pp_lists.specs.Turns.StandsAt.{on_head, on_record}
-use Rattle.pp_walk.specs.Steps.{LeadsTo}
 use Rattle.pp_walk.specs.Words.{IsEmpty, AllEmpty, Cleared, is_kept}
 use Rattle.pp_walk.specs.Roles.{IsAnchor, HasGathered, nothing, chained, StandsOn, Walking, is_look}
 use Rattle.pp_walk.specs.Parts.{Holds, word_in, GathersNone, BeginsAgain}
@@ -274,11 +273,19 @@ anchors_at z q r call w going call_is low held at home less first chain c =
       record {
         going = c.going ∙ going;
         call_is = c.same.call ∙ call_is;
-        anchored = (low, ap (λ (s : WalkSlot). s.held) here ∙ held, subst (λ (s : WalkSlot). s.key < key_of call) (sym here) less,
-            ap (λ (s : WalkSlot). bucket z.heads s.key) here ∙ home);
+        anchored = (
+          low,
+          ap (λ (s : WalkSlot). s.held) here ∙ held,
+          subst (λ (s : WalkSlot). s.key < key_of call) (sym here) less,
+          ap (λ (s : WalkSlot). bucket z.heads s.key) here ∙ home,
+        );
         gathered = nothing none.0 none.1 refl;
-        stands = (low, ap (λ (s : WalkSlot). s.held) here ∙ held, c.at (subst (λ (a : ℕ). is_kept w 5 5 a ≡ true) (sym at) keeps) ∙ at,
-            ap (λ (s : WalkSlot). bucket z.heads s.key) here ∙ home);
+        stands = (
+          low,
+          ap (λ (s : WalkSlot). s.held) here ∙ held,
+          c.at (subst (λ (a : ℕ). is_kept w 5 5 a ≡ true) (sym at) keeps) ∙ at,
+          ap (λ (s : WalkSlot). bucket z.heads s.key) here ∙ home,
+        );
         looks = λ _. none.0;
         empty = λ j lt x y u. c.empty j lt (kept_none w 5 5 j (λ e. x (ap Word e)) (λ e. omega arith) (λ e. omega arith));
       },
@@ -328,8 +335,12 @@ module _ (z : Sizes) (q : ListPass) (call : Call) (anchor : Place) (w link : ℕ
               (not_none q.own.chain) (subst (λ (s : WalkSlot). IsIn (0, link) s.learnt) (sym (here true)) (0, refl)) flag
               (subst (λ (s : WalkSlot). Joined s.named (q.own.chain ++ joining ∷ []) (target link)) (sym still)
               (joined_more (slot q q.own.first).named q.own.chain joining (slot q w).named (h.leads low) real refl flag valid));
-          stands = (h.low, ap (λ (s : WalkSlot). s.held) (here true) ∙ h.held, h.stands,
-              ap (λ (s : WalkSlot). bucket z.heads s.key) (here true) ∙ h.home);
+          stands = (
+            h.low,
+            ap (λ (s : WalkSlot). s.held) (here true) ∙ h.held,
+            h.stands,
+            ap (λ (s : WalkSlot). bucket z.heads s.key) (here true) ∙ h.home,
+          );
           looks = λ l. absurd (not_look l);
           empty = λ j lt x y u. subst IsEmpty (sym (else_same true j (λ e. x (ap Word e)))) (h.empty j lt y u (λ e. x (ap Word e)));
         },
@@ -348,8 +359,12 @@ module _ (z : Sizes) (q : ListPass) (call : Call) (anchor : Place) (w link : ℕ
               (λ e. let long : 1 ≡ 0 = ap (λ (l : List Gathered). length l) e in omega arith)
               (subst (λ (s : WalkSlot). IsIn (0, link) s.learnt) (sym (here false)) (0, refl)) flag
               (subst (λ (s : WalkSlot). Joined s.named (joining ∷ []) (target link)) (sym (here false)) (more real refl flag valid (done refl)));
-          stands = (h.low, ap (λ (s : WalkSlot). s.held) (here false) ∙ h.held, h.stands,
-              ap (λ (s : WalkSlot). bucket z.heads s.key) (here false) ∙ h.home);
+          stands = (
+            h.low,
+            ap (λ (s : WalkSlot). s.held) (here false) ∙ h.held,
+            h.stands,
+            ap (λ (s : WalkSlot). bucket z.heads s.key) (here false) ∙ h.home,
+          );
           looks = λ l. absurd (not_look l);
           empty = λ j lt x y u. subst IsEmpty (sym (else_same false j u)) (h.empty j lt y (λ e. omega arith) u);
         },

@@ -1,10 +1,9 @@
 -- Steps of a pass by their names and the calls that were placed at them.
-use Rattle.std.proofs.Common.{◌≡◌, ℕ, ◌+◌, ◌<◌, ◌≤◌, List, [], ◌∷◌, ◌++◌, length, refl, sym, ap, ◌∙◌, subst, arith}
+use Rattle.std.proofs.Common.{◌≡◌, ℕ, ◌<◌, List, [], ◌∷◌, ◌++◌, length, refl, ap, ◌∙◌}
 use Rattle.std.specs.Prelude.{map}
 use Rattle.std.proofs.lemmas.List.{map-append}
 use Rattle.pp_model.specs.declared.Change.{Change}
 use Rattle.pp_model.specs.declared.Placed.{Placed}
-use Rattle.pp_model.specs.declared.steps.Step.{Step}
 use Rattle.pp_rule.specs.Steps.{MadeStep}
 use Rattle.pp_base.specs.Named.{NamedStep, name_of, Made}
 use Rattle.pp_calls.specs.Steps.{Stepped}

@@ -5,8 +5,7 @@ use Rattle.std.specs.Prelude.{min}
 use Rattle.std.proofs.Math.Decide.{ℕ_discrete}
 use mathlib.Core.Logic.{dite}
 use Rattle.pp_link.specs.declared.layout.Sizes.{Sizes}
-use Rattle.pp_link.specs.Links.{target, invalid_bit, flag_bit, word_of}
-use Rattle.pp_link.specs.Places.{cell_place}
+use Rattle.pp_link.specs.Links.{target, invalid_bit, flag_bit}
 use Rattle.pp_model.specs.declared.Call.{Call}
 use Rattle.pp_model.specs.declared.Change.{Change}
 use Rattle.pp_model.specs.declared.Placed.{Placed}
@@ -15,11 +14,11 @@ use Rattle.pp_model.specs.Calls.{key_of, reply_at, changes}
 use Rattle.pp_rule.specs.declared.views.WalkSlot.{WalkSlot}
 use Rattle.pp_rule.specs.declared.views.LoggedStep.{LoggedStep}
 use Rattle.pp_rule.specs.Lists.{IsIn}
-use Rattle.pp_rule.specs.Orders.{log_of, placed_by, load_step}
+use Rattle.pp_rule.specs.Orders.{load_step}
 use Rattle.pp_rule.specs.Views.{slot}
-use Rattle.pp_rule.specs.Steps.{MadeStep, MadeQuietStep}
+use Rattle.pp_rule.specs.Steps.{MadeStep}
 use Rattle.pp_rule.proofs.Put.{in_left, in_one}
-use Rattle.pp_rule.proofs.Made.{known_after, order_begins}
+use Rattle.pp_rule.proofs.Made.{known_after}
 use Rattle.pp_base.specs.declared.source.Place.{Place}
 use Rattle.pp_base.specs.declared.source.Place.TheVariants.{Head, Walk as Word}
 use Rattle.pp_base.specs.declared.source.Side.TheVariants.{Left}
@@ -31,24 +30,22 @@ use Rattle.pp_calls.proofs.Remaining.{stands_one, stands_made}
 use Rattle.pp_lists.specs.declared.own.ListOwn.{ListOwn}
 use Rattle.pp_lists.specs.Walks.{bucket, Joined}
 use Rattle.pp_lists.specs.Lists.{ListPass}
-use Rattle.pp_lists.specs.Turns.{ListView, with_own, resting, Reached, IsNil, end_step, found_at}
+use Rattle.pp_lists.specs.Turns.{ListView, with_own, resting, IsNil, end_step, found_at}
 use Rattle.pp_lists.proofs.Losing.{onto, finds_append, idle_finds, load_valid, load_invalid, finds_none}
 use Rattle.pp_walk.specs.declared.walk.Walk.{Walk}
-use Rattle.pp_walk.specs.declared.walk.Found.{Found}
-use Rattle.pp_walk.specs.declared.walk.Turn.TheVariants.{On, At, Lost}
-use Rattle.pp_walk.specs.declared.walk.Came.{Came}
+use Rattle.pp_walk.specs.declared.walk.Turn.TheVariants.{On, Lost}
 use Rattle.pp_walk.specs.declared.walk.Came.TheVariants.{Moved, Broken, Anchors, Gathers, Ends}
-use Rattle.pp_walk.specs.Words.{IsEmpty, AllEmpty, Cleared, SameCallOf, SameRest}
-use Rattle.pp_walk.specs.Roles.{IsWalk, IsUnder, Walking, IsFound, HasChain, no_chain, a_chain, IsEnd, at_nil, at_record, Counts, nothing, is_look, most}
-use Rattle.pp_walk.specs.Roles.{found_in, lower_of, HasGathered, chained, StandsOn}
-use Rattle.pp_walk.specs.Trod.{Quiet, RestOfTurn, Trod}
-use Rattle.pp_walk.specs.Turns.{TurnsTo, Turned, Goes, GoesOn, GoesBack, Arrives, Answers}
-use Rattle.pp_walk.specs.Parts.{LoadsFirst, BeginsAgain, CameOn, SameOf, Stopped, EndsAt, EndsBy, gathered_at, finding, GathersNone, plain_link}
-use Rattle.pp_walk.proofs.Counting.{same_through, rest_through, same_self, writes_one, writes_none, writes_both}
+use Rattle.pp_walk.specs.Words.{IsEmpty, Cleared, SameCallOf, SameRest}
+use Rattle.pp_walk.specs.Roles.{IsWalk, Walking, Counts, nothing, most}
+use Rattle.pp_walk.specs.Roles.{lower_of, StandsOn}
+use Rattle.pp_walk.specs.Trod.{Quiet, RestOfTurn}
+use Rattle.pp_walk.specs.Turns.{TurnsTo, Turned, Arrives, Answers}
+use Rattle.pp_walk.specs.Parts.{LoadsFirst, BeginsAgain, CameOn, SameOf, EndsAt, gathered_at, finding}
+use Rattle.pp_walk.proofs.Counting.{rest_through, same_self, writes_one, writes_none, writes_both}
 use Rattle.pp_walk.proofs.Standing.{begins_again, chains_of, Chains, anchor_on}
 use Rattle.pp_walk.proofs.Finding.{found_there, found_is, found_nil}
 use Rattle.pp_walk.proofs.Loading.{from_on}
-use Rattle.pp_walk.proofs.Strands.{Strand, strand_one, strand_both, strand_made, trod_of}
+use Rattle.pp_walk.proofs.Strands.{strand_one, strand_both, strand_made, trod_of}
 
 -- the walk after the first load of a turn
 abbrev pub started : Walk → Walk
@@ -66,15 +63,19 @@ pub again_walk : (z : Sizes) (q : ListPass) (walk : Walk) → walk.head < z.head
 again_walk z q walk low home b = record {
   low = low;
   home = home;
-  under = (record {
-    going = b.going;
-    call_is = b.call_is;
-    anchored = (low, home);
-    gathered = nothing b.nothing.first b.nothing.chain refl;
-    stands = tt;
-    looks = λ _. b.nothing.first;
-    empty = λ j lt _ _ _. b.empty j lt;
-  }, sym b.nothing.first, ap (λ (cs : List Rattle.pp_lists.specs.declared.own.Gathered.Gathered). min (length cs) most) (sym b.nothing.chain));
+  under = (
+    record {
+      going = b.going;
+      call_is = b.call_is;
+      anchored = (low, home);
+      gathered = nothing b.nothing.first b.nothing.chain refl;
+      stands = tt;
+      looks = λ _. b.nothing.first;
+      empty = λ j lt _ _ _. b.empty j lt;
+    },
+    sym b.nothing.first,
+    ap (λ (cs : List Rattle.pp_lists.specs.declared.own.Gathered.Gathered). min (length cs) most) (sym b.nothing.chain),
+  );
 }
 
 own_before : (u w : ListView) → Stepped u w → HasOwn w.order → HasOwn u.order
@@ -159,8 +160,12 @@ module _ (z : Sizes) (walk : Walk) (first : ℕ) (v u : ListView) (is : IsWalk z
         trod = trod_of 0 (steps ++ stop ∷ []) e.calls v w (strand_both steps (stop ∷ []) [] e.calls v last w (strand_made steps v last did) one)
             (omega arith) (λ sizes earlier. let all = finds_append sizes earlier steps (stop ∷ []) in let a = rest.loses sizes earlier in
             let b = idle_finds sizes (onto steps earlier) (stop ∷ []) (λ t i. subst (λ (x : NamedStep).
-            Rattle.pp_lists.proofs.Losing.IsIdleKind x.kind) (in_one t stop i) record { load = λ e. omega arith; confirm = λ e. omega arith;
-            miss = λ e. omega arith; mark = λ e. omega arith }) in omega arith)
+            Rattle.pp_lists.proofs.Losing.IsIdleKind x.kind) (in_one t stop i) record {
+              load = λ e. omega arith;
+              confirm = λ e. omega arith;
+              miss = λ e. omega arith;
+              mark = λ e. omega arith;
+            }) in omega arith)
             (writes_both steps (stop ∷ []) (writes_one (loads place first) rest.steps refl rest.writes) (writes_one stop [] refl writes_none));
         stands = λ own st. by (changes (reply_at u.known.own.call (found_at (key_of call) (slot w.known i).key (slot w.known i).value link))) refl own
             (stands_made steps v last did (own_before last w one.stepped own) st);
@@ -195,8 +200,12 @@ module _ (z : Sizes) (walk : Walk) (first : ℕ) (v u : ListView) (is : IsWalk z
       walks = record {
         low = is.low;
         home = is.home;
-        under = (c.1, gathered_u ∙ sym c.2.first, counts_u ∙ ap (λ (cs : List Rattle.pp_lists.specs.declared.own.Gathered.Gathered). min (length cs) most)
-            (sym c.2.chain));
+        under = (
+          c.1,
+          gathered_u ∙ sym c.2.first,
+          counts_u ∙ ap (λ (cs : List Rattle.pp_lists.specs.declared.own.Gathered.Gathered). min (length cs) most)
+              (sym c.2.chain),
+        );
       };
       under_way = refl;
     };
@@ -227,8 +236,12 @@ module _ (z : Sizes) (walk : Walk) (first : ℕ) (v u : ListView) (is : IsWalk z
       walks = record {
         low = is.low;
         home = is.home;
-        under = (c.1.walks, sym c.1.nothing.first, ap (λ (cs : List Rattle.pp_lists.specs.declared.own.Gathered.Gathered). min (length cs) most)
-            (sym c.1.nothing.chain));
+        under = (
+          c.1.walks,
+          sym c.1.nothing.first,
+          ap (λ (cs : List Rattle.pp_lists.specs.declared.own.Gathered.Gathered). min (length cs) most)
+              (sym c.1.nothing.chain),
+        );
       };
       under_way = refl;
     };
@@ -349,14 +362,20 @@ turn_nil z walk first v u is l nil = by (changes (reply_at l.own.call None)) ref
     by false c = let s = (l.reached.ended nil).0 c in
         made_so (Rattle.pp_model.specs.MapCalls.placed l.own.call (reply_at l.own.call None) s.at ∷ []) (resting l.own) s.made
         record { call = refl; start = refl; left = refl } refl refl refl record {
-          settled = λ _. (ap (λ (q : ListPass). q.own.going) (known_after load_step (source_place z v.known walk.at Left) first first []
-              (Rattle.pp_model.specs.MapCalls.placed l.own.call (reply_at l.own.call None) s.at ∷ []) (with_own (resting l.own) v.known) v u s.made),
-              record { at = s.at; since = s.since; within = s.within; right = s.right; least = s.least; calls_are = refl; stands = s.stands });
+          settled = λ _. (
+            ap (λ (q : ListPass). q.own.going) (known_after load_step (source_place z v.known walk.at Left) first first []
+                (Rattle.pp_model.specs.MapCalls.placed l.own.call (reply_at l.own.call None) s.at ∷ []) (with_own (resting l.own) v.known) v u s.made),
+            record { at = s.at; since = s.since; within = s.within; right = s.right; least = s.least; calls_are = refl; stands = s.stands },
+          );
           goes_on = λ d. absurd (true≢false (sym d ∙ c));
         } (λ own st. s.stands)
     by true c = let s = (l.reached.ended nil).1 c in let made = s.0 in
         made_so [] l.own made (same_self l.own) refl refl refl record {
           settled = λ d. absurd (true≢false (sym c ∙ d));
-          goes_on = λ _. (ap (λ (q : ListPass). q.own.going) (known_after load_step (source_place z v.known walk.at Left) first first [] []
-              (with_own l.own v.known) v u made) ∙ walks_0.going, refl, s.1);
+          goes_on = λ _. (
+            ap (λ (q : ListPass). q.own.going) (known_after load_step (source_place z v.known walk.at Left) first first [] []
+                (with_own l.own v.known) v u made) ∙ walks_0.going,
+            refl,
+            s.1,
+          );
         } (λ own st. stands_one v u made refl own st)

@@ -1,5 +1,5 @@
 -- What the later turns of a call that changes the list ask of a pass, and make of its view.
-use Rattle.std.specs.Prelude.{◌≡◌, ◌≢◌, ◌⊎◌, ℕ, ◌*◌, ◌%◌, ◌<◌, ◌≤◌, Bool, true, false, List, [], ◌∷◌, ◌++◌, Option, Some, None, bit_or, map}
+use Rattle.std.specs.Prelude.{◌≡◌, ◌≢◌, ℕ, ◌*◌, ◌<◌, Bool, true, false, List, [], Option, Some, None, bit_or}
 use lib.ListN.{get_elem?}
 use mathlib.Core.Option.{some}
 use Rattle.pp_link.specs.declared.layout.Sizes.{Sizes}
@@ -7,7 +7,6 @@ use Rattle.pp_link.specs.declared.link.Link.{Link}
 use Rattle.pp_link.specs.Links.{target, flag_bit, word_of}
 use Rattle.pp_link.specs.Places.{cell_place}
 use Rattle.pp_model.specs.declared.Call.{Call}
-use Rattle.pp_model.specs.Calls.{key_of}
 use Rattle.pp_rule.specs.declared.views.PrivateRecord.{PrivateRecord}
 use Rattle.pp_rule.specs.Lists.{times}
 use Rattle.pp_rule.specs.Views.{slot, halves, value_of}
@@ -17,17 +16,15 @@ use Rattle.pp_base.specs.declared.source.Place.{Place}
 use Rattle.pp_base.specs.declared.source.Side.TheVariants.{Left}
 use Rattle.pp_base.specs.Passes.{owned_numbers}
 use Rattle.pp_base.specs.Sources.{source_place}
-use Rattle.pp_base.specs.Named.{NamedStep, name_of, misses, Made}
-use Rattle.pp_calls.specs.Steps.{Stepped}
+use Rattle.pp_base.specs.Named.{NamedStep, Made}
 use Rattle.pp_unlink.specs.Unlinking.{Unlinks}
 use Rattle.pp_unlink.specs.declared.unlinking.Unlink.{Unlink}
 use Rattle.pp_unlink.specs.declared.unlinking.Unlink.TheVariants.{Detached, Changed}
 use Rattle.pp_lists.specs.Walks.{Joined}
 use Rattle.pp_lists.specs.Lists.{ListPass, list_chain, list_frozen}
-use Rattle.pp_lists.specs.Turns.{ListView, EndsPast, Marks, Published, mark_step, marked}
+use Rattle.pp_lists.specs.Turns.{ListView, EndsPast, Marks, marked}
 use Rattle.pp_lists.specs.Losses.{finds}
 use Rattle.pp_walk.specs.declared.effects.Taken.{Taken}
-use Rattle.pp_walk.specs.Words.{SameRest}
 use Rattle.pp_walk.specs.Roles.{IsAnchor, IsPlain}
 use Rattle.pp_model.specs.Pass.{MapSizes}
 use Rattle.pp_walk.specs.Parts.{plain_link}

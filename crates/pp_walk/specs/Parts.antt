@@ -3,7 +3,6 @@ use Rattle.std.specs.Prelude.{◌≡◌, ◌≢◌, ◌⊎◌, ℕ, ◌+◌, ◌
 use Rattle.pp_link.specs.declared.layout.Sizes.{Sizes}
 use Rattle.pp_link.specs.declared.link.Link.{Link}
 use Rattle.pp_link.specs.Links.{target, invalid_bit, flag_bit}
-use Rattle.pp_link.specs.Places.{cell_place}
 use Rattle.pp_model.specs.declared.Call.{Call}
 use Rattle.pp_model.specs.declared.Placed.{Placed}
 use Rattle.pp_model.specs.Calls.{key_of}
@@ -13,18 +12,17 @@ use Rattle.pp_base.specs.declared.source.Place.{Place}
 use Rattle.pp_base.specs.declared.source.Place.TheVariants.{Head, Walk as Word}
 use Rattle.pp_base.specs.declared.source.Side.TheVariants.{Left}
 use Rattle.pp_base.specs.Sources.{source_place}
-use Rattle.pp_base.specs.Named.{NamedStep, Did}
 use Rattle.pp_lists.specs.declared.own.ListOwn.{ListOwn}
 use Rattle.pp_lists.specs.Walks.{bucket, Joined}
 use Rattle.pp_lists.specs.Lists.{ListPass}
-use Rattle.pp_lists.specs.Turns.{ListView, Reached, IsNil, end_step, found_at}
+use Rattle.pp_lists.specs.Turns.{ListView, Reached, end_step, found_at}
 use Rattle.pp_walk.specs.declared.walk.Walk.{Walk}
 use Rattle.pp_walk.specs.declared.walk.Found.{Found}
 use Rattle.pp_walk.specs.declared.walk.Came.{Came}
 use Rattle.pp_walk.specs.declared.walk.Came.TheVariants.{Moved, Broken, Anchors, Gathers, Ends}
 use Rattle.pp_walk.specs.Steps.{LeadsTo}
 use Rattle.pp_walk.specs.Words.{IsEmpty, AllEmpty, SameCallOf, SameRest}
-use Rattle.pp_walk.specs.Roles.{IsAnchor, Walking, Counts, is_look, lower_of, most}
+use Rattle.pp_walk.specs.Roles.{IsAnchor, Walking, is_look, lower_of, most}
 use Rattle.pp_walk.specs.Trod.{Quiet, RestOfTurn}
 use Rattle.pp_walk.specs.Turns.{From, Answers}
 

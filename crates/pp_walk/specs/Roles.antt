@@ -1,5 +1,5 @@
 -- The roles of a walk's words: where the call stands, its anchor, and the first record of what it gathered.
-use Rattle.std.specs.Prelude.{◌≡◌, ◌≢◌, ◌⊎◌, ℕ, ◌+◌, ◌%◌, ◌<◌, ◌≤◌, Bool, true, false, cond, nat_eq, min, [], length}
+use Rattle.std.specs.Prelude.{◌≡◌, ◌≢◌, ℕ, ◌+◌, ◌%◌, ◌<◌, ◌≤◌, Bool, true, false, cond, nat_eq, min, [], length}
 use Rattle.std.specs.Prelude.{Option, Some, None}
 use Rattle.pp_link.specs.declared.layout.Sizes.{Sizes}
 use Rattle.pp_link.specs.declared.link.Link.{Link}
@@ -12,7 +12,6 @@ use Rattle.pp_rule.specs.States.{IsSmall}
 use Rattle.pp_rule.specs.Views.{slot, value_of}
 use Rattle.pp_base.specs.declared.source.Place.{Place}
 use Rattle.pp_base.specs.declared.source.Place.TheVariants.{Head, Walk as Word}
-use Rattle.pp_lists.specs.declared.own.ListOwn.{ListOwn}
 use Rattle.pp_lists.specs.Walks.{bucket, Joined}
 use Rattle.pp_lists.specs.Lists.{ListPass}
 use Rattle.pp_walk.specs.declared.walk.Walk.{Walk}

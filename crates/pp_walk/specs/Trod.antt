@@ -1,5 +1,5 @@
 -- What a part of a call's steps counts.
-use Rattle.std.specs.Prelude.{◌≡◌, ℕ, ◌<◌, false, List, [], ◌∷◌, ◌++◌, map, length}
+use Rattle.std.specs.Prelude.{◌≡◌, ℕ, ◌<◌, false, List, ◌∷◌, ◌++◌, map, length}
 use Rattle.pp_model.specs.declared.Placed.{Placed}
 use Rattle.pp_model.specs.declared.steps.Step.{Step}
 use Rattle.pp_model.specs.Pass.{MapSizes}
@@ -7,7 +7,7 @@ use Rattle.pp_rule.specs.Lists.{IsIn}
 use Rattle.pp_rule.specs.Orders.{made_by}
 use Rattle.pp_base.specs.Named.{NamedStep, name_of, loads, Made}
 use Rattle.pp_calls.specs.PoolViews.{is_writing}
-use Rattle.pp_calls.specs.Steps.{Stepped, StandsThen}
+use Rattle.pp_calls.specs.Steps.{Stepped}
 use Rattle.pp_lists.specs.Turns.{ListView}
 use Rattle.pp_lists.specs.Losses.{finds, is_effect}
 

@@ -1,5 +1,5 @@
 -- What a turn of a walk makes of the view of its pass.
-use Rattle.std.specs.Prelude.{◌≡◌, ℕ, ◌+◌, ◌^◌, ◌<◌, ◌≤◌, Bool, true, false, List, [], ◌∷◌, length, Option}
+use Rattle.std.specs.Prelude.{◌≡◌, ℕ, ◌^◌, ◌<◌, ◌≤◌, Bool, true, false, List, [], ◌∷◌, length, Option}
 use Rattle.pp_link.specs.declared.layout.Sizes.{Sizes}
 use Rattle.pp_model.specs.declared.Call.{Call}
 use Rattle.pp_model.specs.declared.Placed.{Placed}
@@ -7,8 +7,7 @@ use Rattle.pp_model.specs.Calls.{key_of, reply, reply_at, changes}
 use Rattle.pp_model.specs.History.{after, Stands}
 use Rattle.pp_model.specs.MapCalls.{placed}
 use Rattle.pp_rule.specs.Orders.{log_of, placed_by}
-use Rattle.pp_base.specs.declared.source.Place.{Place}
-use Rattle.pp_base.specs.declared.source.Place.TheVariants.{Head, Walk as Word}
+use Rattle.pp_base.specs.declared.source.Place.TheVariants.{Head}
 use Rattle.pp_calls.specs.Steps.{HasOwn, StandsThen}
 use Rattle.pp_lists.specs.declared.own.ListOwn.{ListOwn}
 use Rattle.pp_lists.specs.Walks.{IsRight}

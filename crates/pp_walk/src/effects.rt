@@ -12,8 +12,7 @@ ghost use Rattle.pp_walk.specs.Steps.{LeadsTo};
 ghost use Rattle.pp_walk.specs.Roles.{IsPlain};
 ghost use Rattle.pp_walk.specs.Effects.{MayFill, FillsAt, PublishesSo, MarksSo, MayDetachRun, DetachesSo};
 
-use crate::ListShape;
-use crate::steps;
+use crate::{ListShape, steps};
 use pp_base::source::unpacked;
 use pp_base::{Pass, Place, Pool, Side};
 use pp_hazard::reading::value;
@@ -54,7 +53,12 @@ pub fn publish_behind(
 
 /// Marks the record that the pass holds in a walk word as removed, for a call that takes its pair. None says that it was removed
 /// already. Else the call has taken effect, and gets the record's value and the link to the record behind it.
-pub fn mark_end(pool: &Pool<ListShape>, pass: &mut Pass<ListShape>, word: u8, call: Call) -> Option<Taken>
+pub fn mark_end(
+    pool: &Pool<ListShape>,
+    pass: &mut Pass<ListShape>,
+    word: u8,
+    call: Call,
+) -> Option<Taken>
     requires fits { Fits pool.now.table.shared.table_id pool.now.layout pass.old.seat }
     requires word { word < 5 }
     requires held { (slot (known pass.old.seat) word).held ≡ true }
@@ -76,7 +80,13 @@ pub fn mark_end(pool: &Pool<ListShape>, pass: &mut Pass<ListShape>, word: u8, ca
 
 /// Detaches by one exchange what was gathered behind an anchor, up to this end. False says that the anchor's link doesn't lead to the
 /// first gathered record any more, or not without bits.
-pub fn detach_run(pool: &Pool<ListShape>, pass: &mut Pass<ListShape>, anchor: Place, first: Link, end: Link) -> bool
+pub fn detach_run(
+    pool: &Pool<ListShape>,
+    pass: &mut Pass<ListShape>,
+    anchor: Place,
+    first: Link,
+    end: Link,
+) -> bool
     requires fits { Fits pool.now.table.shared.table_id pool.now.layout pass.old.seat }
     requires rest { IsAtRest (known pass.old.seat) pass.old.purse }
     requires may { MayDetachRun pool.now.layout (known pass.old.seat) anchor first end }

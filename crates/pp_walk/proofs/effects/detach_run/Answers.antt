@@ -1,5 +1,5 @@
 -- The exchange that takes the run out.
-use Rattle.std.proofs.Common.{◌≡◌, ◌≤◌, ℕ, List, length, refl, sym, ap, ◌∙◌, subst, arith}
+use Rattle.std.proofs.Common.{◌≤◌, List, length, ap, arith}
 use Rattle.std.proofs.lemmas.List.{length-map}
 use Rattle.pp_link.specs.Links.{word_of}
 use Rattle.pp_base.specs.declared.purse.InHand.{InHand}

@@ -1,11 +1,11 @@
 -- The or-step, and the value behind it.
-use Rattle.std.proofs.Common.{◌≡◌, true, false, ℕ, refl, sym, ap, ◌∙◌, subst}
+use Rattle.std.proofs.Common.{◌≡◌, sym, ap, ◌∙◌}
 use Rattle.pp_link.specs.Links.{bit, flag_bit}
 use Rattle.pp_link.specs.Places.{cell_place}
 use Rattle.pp_rule.specs.declared.views.WalkSlot.{WalkSlot}
 use Rattle.pp_rule.specs.Views.{slot}
 use Rattle.pp_walk.specs.Parts.{plain_link}
-use Rattle.pp_base.specs.Passes.{known, view}
+use Rattle.pp_base.specs.Passes.{view}
 use Rattle.pp_walk.proofs.Effecting.{flag_of, marks_none, marks_one, held_marked}
 use Rattle.pp_walk.proofs.effects.mark_end.Goals as goal
 

@@ -1,11 +1,10 @@
 -- The exchange of an anchor's link.
-use Rattle.std.proofs.Common.{◌≡◌, ◌<◌, ℕ, nat_eq, refl, sym, ap, ◌∙◌, subst, arith}
+use Rattle.std.proofs.Common.{ℕ, nat_eq, sym, ap, subst, arith}
 use Rattle.pp_base.specs.declared.source.Side.TheVariants.{Left}
 use Rattle.pp_base.specs.Passes.{known, view}
 use Rattle.pp_base.specs.Sources.{source_place}
 use Rattle.pp_link.specs.Links.{word_of}
 use Rattle.pp_link.specs.declared.link.Link.{Link}
-use Rattle.pp_walk.specs.Parts.{plain_link}
 use Rattle.pp_walk.specs.Steps.{MayPublishAt, PublishedAt}
 use Rattle.pp_walk.proofs.Effecting.{anchor_readable, anchor_past, may_publish, publishes_so}
 use Rattle.pp_walk.proofs.effects.publish_behind.Goals as goal

@@ -1,7 +1,7 @@
 -- The record's key was read, and the walk comes on by it.
-use Rattle.std.proofs.Common.{◌≡◌, refl, sym, ap, ◌∙◌, subst}
+use Rattle.std.proofs.Common.{refl, sym, ap, ◌∙◌, subst}
 use Rattle.pp_rule.specs.Views.{slot}
-use Rattle.pp_base.specs.Passes.{known, view}
+use Rattle.pp_base.specs.Passes.{view}
 use Rattle.pp_lists.specs.Lists.{ListPass}
 use Rattle.pp_walk.specs.Parts.{Holds}
 use Rattle.pp_walk.proofs.Here.{here_after, read_quiet, read_known}

@@ -1,10 +1,10 @@
 -- How the parts of a turn come together after its first load.
-use Rattle.std.proofs.Common.{◌≡◌, ◌≢◌, true, false, ℕ, refl, sym, ap, ◌∙◌, subst}
+use Rattle.std.proofs.Common.{sym, ap, ◌∙◌}
 use Rattle.pp_base.specs.declared.source.Side.TheVariants.{Left}
-use Rattle.pp_base.specs.Passes.{known, view}
+use Rattle.pp_base.specs.Passes.{view}
 use Rattle.pp_base.specs.Sources.{source_place}
 use Rattle.pp_walk.specs.Parts.{word_in}
-use Rattle.pp_walk.proofs.On.{on_held, on_moved, on_broken}
+use Rattle.pp_walk.proofs.On.{on_held, on_broken}
 use Rattle.pp_walk.proofs.walk.come_on.Goals as goal
 
 pub hold_next-second-requires-clause-word : goal.hold_next-second-requires-clause-word

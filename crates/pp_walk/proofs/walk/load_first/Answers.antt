@@ -1,5 +1,4 @@
 -- The first load of a turn, of a call's first turn or of a later one.
-use Rattle.std.proofs.Common.{◌≡◌, refl, sym, ap, ◌∙◌, subst}
 use Rattle.pp_base.specs.Passes.{known, view}
 use Rattle.pp_walk.proofs.Standing.{standing_of, stands_at, readable}
 use Rattle.pp_walk.proofs.Loading.{loads_fresh, loads_later, under_false}

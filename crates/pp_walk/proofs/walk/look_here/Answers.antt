@@ -1,7 +1,6 @@
 -- The record's key was read, and a get comes on by it.
-use Rattle.std.proofs.Common.{◌≡◌, ◌≢◌, ◌<◌, ◌≤◌, ◌^◌, ℕ, refl, sym, ap, ◌∙◌, subst, arith}
+use Rattle.std.proofs.Common.{◌≡◌, ◌<◌, ◌≤◌, ◌^◌, ℕ, refl, sym, ap, ◌∙◌, subst, arith}
 use Rattle.pp_link.specs.Links.{bit, invalid_bit}
-use Rattle.pp_model.specs.declared.Call.{Call}
 use Rattle.pp_model.specs.Calls.{key_of}
 use Rattle.pp_rule.specs.Views.{slot}
 use Rattle.pp_base.specs.Passes.{known, view}

@@ -1,5 +1,5 @@
 -- The record has a smaller key: it is gathered, or it is the anchor.
-use Rattle.std.proofs.Common.{◌≡◌, ◌≢◌, ◌<◌, ◌%◌, ◌^◌, ℕ, refl, sym, ap, ◌∙◌, subst, arith}
+use Rattle.std.proofs.Common.{◌≡◌, ◌≢◌, ◌<◌, ◌%◌, ◌^◌, ℕ, sym, ap, ◌∙◌, subst, arith}
 use Rattle.pp_link.specs.Links.{bit, flag_bit, invalid_bit}
 use Rattle.pp_rule.specs.Views.{slot}
 use Rattle.pp_base.specs.Passes.{known, view}

@@ -1,5 +1,5 @@
 -- Where 0, 1 and 2 are the three words, 3 is none of them.
-use Rattle.std.proofs.Common.{◌≡◌, ◌≢◌, ◌⊎◌, ℕ, ◌<◌, arith}
+use Rattle.std.proofs.Common.{◌≡◌, ◌≢◌, ◌⊎◌, ℕ, arith}
 use Rattle.pp_walk.proofs.walk.spare.Goals as goal
 
 not_first : (a b c : ℕ) → (0 ≡ a) ⊎ ((0 ≡ b) ⊎ (0 ≡ c)) → (1 ≡ a) ⊎ ((1 ≡ b) ⊎ (1 ≡ c)) → (2 ≡ a) ⊎ ((2 ≡ b) ⊎ (2 ≡ c)) → 3 ≢ a

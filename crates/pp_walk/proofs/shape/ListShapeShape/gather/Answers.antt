@@ -21,9 +21,10 @@ returns c = let z = c.args.layout.now in let words = c.args.words.now in
     let heads = ap (λ s. s.heads) c.sizes-heads.ensures.same in omega arith) in
     let pairs : c.loop-head.contents.items ≡ map (pair_of z words) (list_alive z words) =
     c.loop-head.invariant.contents ∙ (ap (map (pair_of z words)) (c.loop-head.invariant.live ∙ ap (live_of z words) end)) in
-    let sorted = c.sort_unstable_by_key.new.self.items in
-    (sorted_is (map (pair_of z words) (list_alive z words)) sorted
-    (subst (λ (l : List Pair). IsPermutation l sorted) pairs c.sort_unstable_by_key.ensures.permutation)
-    (IsNonDecreasingBy-from_sort_by_key (λ (p : Pair). p.key) sorted c.sort_unstable_by_key.ensures.sorted (λ a r f called. search))
-    (live_keys z words c.requires.rule.0 c.requires.rule.1 c.requires.rule.2),
-    c.loop-head.invariant.live ∙ ap (live_of z words) end)
+    let sorted = c.sort_unstable_by_key.new.self.items in (
+      sorted_is (map (pair_of z words) (list_alive z words)) sorted
+          (subst (λ (l : List Pair). IsPermutation l sorted) pairs c.sort_unstable_by_key.ensures.permutation)
+          (IsNonDecreasingBy-from_sort_by_key (λ (p : Pair). p.key) sorted c.sort_unstable_by_key.ensures.sorted (λ a r f called. search))
+          (live_keys z words c.requires.rule.0 c.requires.rule.1 c.requires.rule.2),
+      c.loop-head.invariant.live ∙ ap (live_of z words) end,
+    )

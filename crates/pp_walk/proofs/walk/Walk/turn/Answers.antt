@@ -1,12 +1,8 @@
 -- Whole turns.
-use Rattle.std.proofs.Common.{◌≡◌, ◌≢◌, ℕ, ◌%◌, nat_eq, refl, sym, ap, ◌∙◌, subst, arith}
-use Rattle.pp_link.specs.Links.{bit, invalid_bit, target, flag_bit}
-use Rattle.pp_rule.specs.Views.{slot}
-use Rattle.pp_base.specs.declared.source.Side.TheVariants.{Left}
+use Rattle.std.proofs.Common.{◌≡◌, ℕ, nat_eq, sym, ap, ◌∙◌, subst, arith}
+use Rattle.pp_link.specs.Links.{bit, invalid_bit}
 use Rattle.pp_base.specs.Passes.{known, view}
-use Rattle.pp_base.specs.Sources.{source_place}
 use Rattle.pp_base.proofs.Steady.{named_at}
-use Rattle.pp_lists.specs.Turns.{IsNil}
 use Rattle.pp_walk.specs.declared.walk.Walk.{Walk}
 use Rattle.pp_walk.specs.declared.walk.Found.{Found}
 use Rattle.pp_walk.specs.declared.walk.Turn.TheVariants.{On, Lost}
