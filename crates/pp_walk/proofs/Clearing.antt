@@ -98,7 +98,8 @@ skip_empty i a b c q q' nothing d = record {
   at = λ k. d.at (from_more i q.own.at _ k);
   gathered = λ k. d.gathered (from_more i q.own.first _ k);
   lost = λ lt out held. ⊎_elim (λ (l : q.own.first < i). d.lost l out held)
-      (λ (e : q.own.first ≡ i). absurd (true≢false (sym held ∙ (ap (λ (s : WalkSlot). s.held) (sym (d.kept q.own.first (inl (omega arith))))
+      (λ (e : q.own.first ≡ i). absurd (true≢false (sym held ∙ (ap (λ (s : WalkSlot). s.held)
+      (sym (d.kept q.own.first (inl (omega arith))))
       ∙ (ap (λ (k : ℕ). (slot q' k).held) e ∙ nothing.free))))) (below_or i q.own.first lt);
   none = d.none;
 }
@@ -200,7 +201,8 @@ clears_start a b c s = record {
   idles = quiet_none (view s);
 }
 
-pub clears_kept : (i a b c : ℕ) (s s' : Seat Unit ListView) → (i ≡ a) ⊎ ((i ≡ b) ⊎ (i ≡ c)) → ClearsTo i a b c s s' → ClearsTo (i + 1) a b c s s'
+pub clears_kept : (i a b c : ℕ) (s s' : Seat Unit ListView) → (i ≡ a) ⊎ ((i ≡ b) ⊎ (i ≡ c)) → ClearsTo i a b c s s' → ClearsTo
+    (i + 1) a b c s s'
 clears_kept i a b c s s' keep t = record {
   same = t.same;
   cleared = skip_kept i a b c (known s) (known s') (kept_is a b c i keep) t.cleared;
@@ -224,13 +226,15 @@ clears_empty i a b c s s' pass lt none t = record {
 }
 
 pub clears_one : (i a b c p : ℕ) (s s' r : Seat Unit ListView) → length (known s').walk ≡ 5 → i < 5 → i ≢ a → i ≢ b → i ≢ c → IsSame s' r
-    → MadeQuietStep clear_step p 0 0 (clearing list_forget i (known s')) (view s') (view r) → ClearsTo i a b c s s' → ClearsTo (i + 1) a b c s r
+    → MadeQuietStep clear_step p 0 0 (clearing list_forget i (known s')) (view s') (view r) → ClearsTo i a b c s s' → ClearsTo
+    (i + 1) a b c s r
 clears_one i a b c p s s' r five lt x y u same made t = record {
   same = record {
     table_is = same.table_is ∙ t.same.table_is;
     number = same.number ∙ t.same.number;
     sizes = same.sizes ∙ t.same.sizes;
   };
-  cleared = clear_one i a b c (known s) (known s') (known r) five lt (kept_none a b c i x y u) (clear_known i p (view s') (view r) made) t.cleared;
+  cleared = clear_one i a b c (known s) (known s') (known r) five lt (kept_none a b c i x y u)
+      (clear_known i p (view s') (view r) made) t.cleared;
   idles = quiet_both 0 0 0 refl (view s) (view s') (view r) t.idles (clear_quiet i p (view s') (view r) made);
 }

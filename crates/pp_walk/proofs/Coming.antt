@@ -67,7 +67,8 @@ module _ (z : Sizes) (v v1 : ListView) (walk : Walk) (w n p : ℕ) (five : lengt
   going_1 = ap (λ (o : ListOwn). o.going) own_1 ∙ s.going
 
   standing_1 : Standing z v1.known walk.call walk.at walk.anchor
-  standing_1 = standing_on z v.known v1.known walk.call walk.at walk.anchor w (standing_of z v.known walk.call walk.at walk.anchor s) ne_at ne_anchor
+  standing_1 = standing_on z v.known v1.known walk.call walk.at walk.anchor w
+      (standing_of z v.known walk.call walk.at walk.anchor s) ne_at ne_anchor
       ne_first else_1 (ap (λ (o : ListOwn). o.going) own_1) (ap (λ (o : ListOwn). o.call) own_1) (ap (λ (o : ListOwn). o.first) own_1)
       (ap (λ (o : ListOwn). o.chain) own_1) (λ i e _. ap (λ (o : ListOwn). o.at) own_1 ∙ e)
 
@@ -95,7 +96,12 @@ module _ (z : Sizes) (v v1 : ListView) (walk : Walk) (w n p : ℕ) (five : lengt
           ∙ ap (λ (o : ListOwn). record v.known { walk = v1.known.walk; own = o }) (sym own_1)
 
   same_1 : SameCallOf v.known.own v1.known.own
-  same_1 = record { call = ap (λ (o : ListOwn). o.call) own_1; start = ap (λ (o : ListOwn). o.start) own_1; left = ap (λ (o : ListOwn). o.left) own_1 }
+  same_1 = record {
+    call = ap (λ (o : ListOwn). o.call) own_1;
+    start = ap (λ (o : ListOwn). o.start) own_1;
+    left = ap
+        (λ (o : ListOwn). o.left) own_1;
+  }
 
   -- The link is as it was, and all words without a role are cleared.
   module _ (v2 u : ListView) (place first found : ℕ) (sizes_v : v.known.sizes ≡ z) (n_is : n ≡ target first)
@@ -145,7 +151,8 @@ module _ (z : Sizes) (v v1 : ListView) (walk : Walk) (w n p : ℕ) (five : lengt
     pub holds_made : Cleared (word_in walk.anchor) v.known.own.first w v2.known u.known → Quiet 0 v2 u
         → HoldsNext z walk w (source_place z v.known walk.at Left) first v u
     holds_made c idles = record {
-      holds = holds_next z v.known v2.known u.known walk.call walk.at walk.anchor w (target first) key value s low ne_anchor ne_first here_2 else_2 own_2
+      holds = holds_next z v.known v2.known u.known walk.call walk.at walk.anchor w
+          (target first) key value s low ne_anchor ne_first here_2 else_2 own_2
           home leads c;
       rises = subst (λ (x : WalkSlot). lower_of v.known walk.at < x.key + 1) (sym (c.kept w (Rattle.pp_walk.proofs.Clearing.kept_is
           (word_in walk.anchor) v.known.own.first w w (inr (inr refl))))) rises_2;
@@ -157,7 +164,8 @@ module _ (z : Sizes) (v v1 : ListView) (walk : Walk) (w n p : ℕ) (five : lengt
         start = ap (λ (o : ListOwn). o.start) own_2;
         left = ap (λ (o : ListOwn). o.left) own_2;
       } c.same;
-      rest = rest_through v.known v2.known u.known (rest_through v.known v1.known v2.known rest_1 (subst (λ (q : ListPass). SameRest v1.known q) (sym known_2)
+      rest = rest_through v.known v2.known u.known (rest_through v.known v1.known v2.known rest_1
+          (subst (λ (q : ListPass). SameRest v1.known q) (sym known_2)
           record { number = refl; sizes = refl; owned = refl; retired_are = refl; frontier = refl; chains = refl; scan = refl })) c.rest;
       turn = rest_quiet 0 0 0 refl (source_place z v.known walk.at Left) first v v2 u record {
         steps = announces p (target first) ∷ confirms (source_place z v.known walk.at Left) first ∷ [];
@@ -168,7 +176,8 @@ module _ (z : Sizes) (v v1 : ListView) (walk : Walk) (w n p : ℕ) (five : lengt
             (
               v2,
               (
-                subst (λ (k : ℕ). MadeOne (confirms k first) v1 v2) (place_is ∙ place_1) (subst (λ (x : ℕ). MadeOne (confirms place x) v1 v2) hit
+                subst (λ (k : ℕ). MadeOne (confirms k first) v1 v2) (place_is ∙ place_1)
+                    (subst (λ (x : ℕ). MadeOne (confirms place x) v1 v2) hit
                     (plain_one (confirms place found) (standing w (target first) key value v1.known) v1 v2 refl refl (came.same hit).1.2)),
                 refl,
               ),
@@ -213,15 +222,22 @@ module _ (z : Sizes) (v v1 : ListView) (walk : Walk) (w n p : ℕ) (five : lengt
         (ne_eqb v.known.own.first w (λ e. ne_first (sym e)))
 
     standing_3 : Standing z v3.known walk.call walk.at walk.anchor
-    standing_3 = standing_on z v.known v3.known walk.call walk.at walk.anchor w (standing_of z v.known walk.call walk.at walk.anchor s) ne_at ne_anchor
+    standing_3 = standing_on z v.known v3.known walk.call walk.at walk.anchor w
+        (standing_of z v.known walk.call walk.at walk.anchor s) ne_at ne_anchor
         ne_first else_3 (ap (λ (o : ListOwn). o.going) own_3) (ap (λ (o : ListOwn). o.call) own_3) first_3 chain_3
-        (λ i e ne. ap (λ (o : ListOwn). o.at) own_3 ∙ (ap (λ (a : ℕ). cond (nat_eq a w) 5 a) e ∙ ap (λ (b : Bool). cond b 5 i) (ne_eqb i w ne)))
+        (λ i e ne. ap (λ (o : ListOwn). o.at) own_3 ∙ (ap (λ (a : ℕ). cond (nat_eq a w) 5 a) e ∙ ap (λ (b : Bool). cond b 5 i)
+        (ne_eqb i w ne)))
 
     pub loses_made : LosesNext z walk (source_place z v.known walk.at Left) first v v3
     loses_made = record {
       walks = walking_on z v.known v3.known walk.call walk.at walk.anchor w s standing_3 empty_3 else_3 first_3;
       gathered = record { first = first_3; chain = chain_3 };
-      same = record { call = ap (λ (o : ListOwn). o.call) own_3; start = ap (λ (o : ListOwn). o.start) own_3; left = ap (λ (o : ListOwn). o.left) own_3 };
+      same = record {
+        call = ap (λ (o : ListOwn). o.call) own_3;
+        start = ap (λ (o : ListOwn). o.start) own_3;
+        left = ap
+            (λ (o : ListOwn). o.left) own_3;
+      };
       rest = rest_through v.known v1.known v3.known rest_1 (rest_through v1.known v2.known v3.known
           (subst (λ (q : ListPass). SameRest v1.known q) (sym known_m) (Rattle.pp_walk.proofs.Counting.rest_self v1.known))
           (subst (λ (q : ListPass). SameRest v2.known q) (sym known_3)

@@ -37,8 +37,14 @@ writes_both xs ys a b s i = ⊎_elim (a s) (b s) (in_either s xs ys i)
 pub quiet_none : (v : ListView) → Quiet 0 v v
 quiet_none v = record { steps = []; did = refl; loses = λ sizes earlier. finds_none sizes earlier; writes = writes_none }
 
-pub quiet_one : (lost : ℕ) (s : NamedStep) (v w : ListView) → MadeOne s v w → FindSo lost (s ∷ []) → is_writing s.kind ≡ false → Quiet lost v w
-quiet_one lost s v w made so none = record { steps = s ∷ []; did = (w, (made, refl)); loses = so; writes = writes_one s [] none writes_none }
+pub quiet_one : (lost : ℕ) (s : NamedStep) (v w : ListView) → MadeOne s v w → FindSo lost (s ∷ []) → is_writing s.kind ≡ false
+    → Quiet lost v w
+quiet_one lost s v w made so none = record {
+  steps = s ∷ [];
+  did = (w, (made, refl));
+  loses = so;
+  writes = writes_one s [] none writes_none;
+}
 
 -- a step of a kind by which nothing is found
 pub quiet_idle : (s : NamedStep) (v w : ListView) → IsIdleKind s.kind → is_writing s.kind ≡ false → MadeOne s v w → Quiet 0 v w

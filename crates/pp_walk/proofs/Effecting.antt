@@ -1,5 +1,6 @@
 -- The later turns of a call that changes the list.
-use Rattle.std.proofs.Common.{◌≡◌, ◌≢◌, inl, inr, ℕ, zero, suc, ◌+◌, ◌*◌, ◌%◌, ◌<◌, ◌≤◌, Bool, true, false, cond, nat_eq, nat_lt, List, [], ◌∷◌, ◌++◌, length}
+use Rattle.std.proofs.Common.{◌≡◌, ◌≢◌, inl, inr, ℕ, zero, suc, ◌+◌, ◌*◌, ◌%◌, ◌<◌, ◌≤◌, Bool, true, false, cond, nat_eq, nat_lt, List, []}
+use Rattle.std.proofs.Common.{◌∷◌, ◌++◌, length}
 use Rattle.std.proofs.Common.{refl, sym, ap, ◌∙◌, subst, arith, true≢false, eq-eqb, ne_eqb}
 use Rattle.std.specs.Prelude.{bit_or, map, not}
 use Rattle.std.proofs.Math.Decide.{ℕ_discrete}
@@ -60,7 +61,8 @@ anchor_past z q (Head h) = omega arith
 anchor_past z q (Word i) = omega arith
 
 -- The gap behind an anchor may be filled.
-pub may_publish : (z : Sizes) (q : ListPass) (p : Purse) (anchor : Place) (end : Link) (n k v : ℕ) → n < 4294967296 → MayFill z q anchor end k
+pub may_publish : (z : Sizes) (q : ListPass) (p : Purse) (anchor : Place) (end : Link) (n k v : ℕ) → n < 4294967296
+    → MayFill z q anchor end k
     → FillsAt q p n k v end → MayPublishAt z q p n (source_place z q anchor Left) k v (word_of end) (word_of (plain_link n))
 may_publish z q p anchor end n k v small may f = record {
   index = f.index;
@@ -133,12 +135,29 @@ flag_of l = let small = bit_small l.flag in omega arith
 -- The record was marked already.
 pub marks_none : (w place found : ℕ) (call : Call) (before now : ListView) → flag_bit found ≡ 1 → Marks w place call found before now
     → MarksNone place before now
-marks_none w place found call before now flag m = let made = m.lost flag in let s : NamedStep = record { kind = mark_step; place = place; word = found } in record {
+marks_none w place found call before now flag m = let made = m.lost flag in let s : NamedStep = record {
+  kind = mark_step;
+  place = place;
+  word = found;
+} in record {
   found = found;
   flagged = flag;
   tried = record {
     steps = s ∷ [];
-    did = (now, (record { known = before.known; left = bit_or found 1; number = refl; owned = λ _. refl; leaves = λ _. or_same found flag; made = made }, refl));
+    did = (
+      now,
+      (
+        record {
+          known = before.known;
+          left = bit_or found 1;
+          number = refl;
+          owned = λ _. refl;
+          leaves = λ _. or_same found flag;
+          made = made;
+        },
+        refl,
+      ),
+    );
     loses = λ sizes earlier _. marked_finds sizes earlier place found flag;
     strikes = λ t i. subst (λ (x : NamedStep). is_effect x ≡ false) (in_one t s i)
         (ap (λ (b : Bool). not b) (eq-eqb (flag_bit found) 1 flag));
@@ -148,7 +167,8 @@ marks_none w place found call before now flag m = let made = m.lost flag in let 
 
 -- The call took effect, and then the record's value was read.
 pub marks_one : (z : Sizes) (w found a b p q : ℕ) (call : Call) (taken : Taken) (before then middle now : ListView) → flag_bit found ≡ 0
-    → Marks w (cell_place z (slot before.known w).named 2) call found before then → ReadField w 1 a p then middle → ReadField w 4 b q middle now
+    → Marks w (cell_place z (slot before.known w).named 2) call found before then → ReadField w 1 a p then middle
+    → ReadField w 4 b q middle now
     → taken.value ≡ value_of (slot then.known w).value → taken.next ≡ plain_link (target found) → MarksOne z w call taken before now
 marks_one z w found a b p q call taken before then middle now plain m r1 r2 value next =
     let made = (m.done plain).1 in let place : ℕ = cell_place z (slot before.known w).named 2 in
@@ -171,7 +191,8 @@ marks_one z w found a b p q call taken before then middle now plain m r1 r2 valu
 -- what was held before it is held after
 pub held_marked : (w place found : ℕ) (call : Call) (before then : ListView) → flag_bit found ≡ 0 → Marks w place call found before then
     → (j : ℕ) → slot then.known j ≡ slot before.known j
-held_marked w place found call before then plain m j = ap (λ (q : ListPass). slot q j) (known_after mark_step place found (bit_or found 1) _ _
+held_marked w place found call before then plain m j = ap (λ (q : ListPass). slot q j)
+    (known_after mark_step place found (bit_or found 1) _ _
     (marked w (bit_or found 1) before.known) before then (m.done plain).1)
 
 -- What was gathered may be detached at the anchor.
@@ -212,8 +233,10 @@ idling_none = record { idle = λ s i. absurd (in_nil s i); none = λ s i. absurd
 
 idling_one : (s : NamedStep) (steps : List NamedStep) → IsIdleKind s.kind → is_effect s ≡ false → Idling steps → Idling (s ∷ steps)
 idling_one s steps k e rest = record {
-  idle = λ t i. Rattle.std.proofs.Common.⊎_elim (λ (x : t ≡ s). subst (λ (y : NamedStep). IsIdleKind y.kind) (sym x) k) (rest.idle t) (in_cases t s steps i);
-  none = λ t i. Rattle.std.proofs.Common.⊎_elim (λ (x : t ≡ s). subst (λ (y : NamedStep). is_effect y ≡ false) (sym x) e) (rest.none t) (in_cases t s steps i);
+  idle = λ t i. Rattle.std.proofs.Common.⊎_elim (λ (x : t ≡ s). subst (λ (y : NamedStep). IsIdleKind y.kind) (sym x) k) (rest.idle t)
+      (in_cases t s steps i);
+  none = λ t i. Rattle.std.proofs.Common.⊎_elim (λ (x : t ≡ s). subst (λ (y : NamedStep). is_effect y ≡ false) (sym x) e) (rest.none t)
+      (in_cases t s steps i);
 }
 
 idling_both : (xs ys : List NamedStep) → Idling xs → Idling ys → Idling (xs ++ ys)
@@ -227,7 +250,8 @@ unfolding invalidations
 idling_links z [] words = idling_none
 idling_links z (l ∷ ls) [] = idling_none
 idling_links z (l ∷ ls) (w ∷ words) = idling_one (invalidates (cell_place z l.0 (2 + l.1)) w) (invalidations z ls words)
-    record { load = λ e. omega arith; confirm = λ e. omega arith; miss = λ e. omega arith; mark = λ e. omega arith } refl (idling_links z ls words)
+    record { load = λ e. omega arith; confirm = λ e. omega arith; miss = λ e. omega arith; mark = λ e. omega arith } refl
+    (idling_links z ls words)
 
 -- A flush before the try: the list's part and the records that the pass owns stay.
 record FlushedSo (v w : ListView) : Type 0 where
@@ -259,9 +283,15 @@ flushed_so z (suc n) v w f = let u : ListView = f.0 in let one = f.1.0 in let re
       steps = here ++ rest.steps;
       did = made_append here rest.steps v u w one.steps rest.did;
       idling = idling_both here rest.steps (idling_both (invalidations z (Rattle.pp_rule.specs.Paths.links_of 1 c.records) one.words)
-          (retires (frontier_place z v.known.number c.guard) ∷ []) (idling_links z (Rattle.pp_rule.specs.Paths.links_of 1 c.records) one.words)
+          (retires (frontier_place z v.known.number c.guard) ∷ [])
+          (idling_links z (Rattle.pp_rule.specs.Paths.links_of 1 c.records) one.words)
           (idling_one (retires (frontier_place z v.known.number c.guard)) []
-          record { load = λ e. omega arith; confirm = λ e. omega arith; miss = λ e. omega arith; mark = λ e. omega arith } refl idling_none)) rest.idling;
+          record {
+            load = λ e. omega arith;
+            confirm = λ e. omega arith;
+            miss = λ e. omega arith;
+            mark = λ e. omega arith;
+          } refl idling_none)) rest.idling;
       own = rest.own ∙ ap (λ (q : ListPass). q.own) one.known;
       owned = rest.owned ∙ ap (λ (q : ListPass). q.owned) one.known;
       walk = rest.walk ∙ ap (λ (q : ListPass). q.walk) one.known;
@@ -273,7 +303,12 @@ may_flush z v w few f = dite (ℕ_discrete (length v.known.chains) 4) (λ e. flu
     (λ ne. flushed_none v w (f.few (omega arith)))
 
 tried_idle : (steps : List NamedStep) (v w : ListView) → Made steps v w → Idling steps → Tried 0 v w
-tried_idle steps v w did i = record { steps = steps; did = did; loses = λ sizes earlier _. idle_finds sizes earlier steps i.idle; strikes = i.none }
+tried_idle steps v w did i = record {
+  steps = steps;
+  did = did;
+  loses = λ sizes earlier _. idle_finds sizes earlier steps i.idle;
+  strikes = i.none;
+}
 
 -- The chain was detached.
 pub detaches_so : (z : Sizes) (anchor : Place) (first end : ℕ) (v w : ListView) → v.known.sizes ≡ z → length v.known.chains ≤ 4
@@ -291,8 +326,18 @@ detaches_so z anchor first end v w sizes few e = let f = may_flush z v e.between
         tried_idle (f.steps ++ g ∷ d ∷ []) v w
             (made_append f.steps (g ∷ d ∷ []) v e.between w f.did e.steps)
             (idling_both f.steps (g ∷ d ∷ []) f.idling
-            (idling_one g (d ∷ []) record { load = λ e. omega arith; confirm = λ e. omega arith; miss = λ e. omega arith; mark = λ e. omega arith } refl
-            (idling_one d [] record { load = λ e. omega arith; confirm = λ e. omega arith; miss = λ e. omega arith; mark = λ e. omega arith } refl
+            (idling_one g (d ∷ []) record {
+              load = λ e. omega arith;
+              confirm = λ e. omega arith;
+              miss = λ e. omega arith;
+              mark = λ e. omega arith;
+            } refl
+            (idling_one d [] record {
+              load = λ e. omega arith;
+              confirm = λ e. omega arith;
+              miss = λ e. omega arith;
+              mark = λ e. omega arith;
+            } refl
             idling_none))),
       );
       missed = λ bad. absurd (true≢false bad);
@@ -305,8 +350,10 @@ learnt_own : (anchor : Place) (found : ℕ) (q : ListPass)
 learnt_own (Head h) found q = (refl, refl)
 learnt_own (Word i) found q = by (Rattle.std.specs.Prelude.◌&&◌ (list_frozen found) (slot q i).held)
   where
-    by : (b : Bool) → ((cond b (Rattle.pp_rule.specs.Steps.with_walk i (record (slot q i) { learnt = (0, found) ∷ (slot q i).learnt }) q) q).own ≡ q.own)
-        × ((cond b (Rattle.pp_rule.specs.Steps.with_walk i (record (slot q i) { learnt = (0, found) ∷ (slot q i).learnt }) q) q).owned ≡ q.owned)
+    by : (b : Bool) → ((cond b (Rattle.pp_rule.specs.Steps.with_walk i
+        (record (slot q i) { learnt = (0, found) ∷ (slot q i).learnt }) q) q).own ≡ q.own)
+        × ((cond b (Rattle.pp_rule.specs.Steps.with_walk i (record
+        (slot q i) { learnt = (0, found) ∷ (slot q i).learnt }) q) q).owned ≡ q.owned)
     by true = (refl, refl)
     by false = (refl, refl)
 
@@ -318,10 +365,16 @@ misses_so z anchor first end l v w sizes few e = let f = may_flush z v e.between
     let g : NamedStep = guards (frontier_place z v.known.number e.guard) (target end) in
     let m : NamedStep = misses place (word_of l) in let u : NamedStep = unguards (frontier_place z v.known.number e.guard) in
     let known = learnt_own anchor (word_of l) e.between.known in
-    let past : 17 * v.known.sizes.passes < place = subst (λ (y : Sizes). 17 * y.passes < place) (sym sizes) (anchor_past z v.known anchor) in
+    let past : 17 * v.known.sizes.passes < place = subst (λ (y : Sizes). 17 * y.passes < place) (sym sizes)
+    (anchor_past z v.known anchor) in
     let before = idling_both f.steps (g ∷ []) f.idling (idling_one g []
     record { load = λ e. omega arith; confirm = λ e. omega arith; miss = λ e. omega arith; mark = λ e. omega arith } refl idling_none) in
-    let after = idling_one u [] record { load = λ e. omega arith; confirm = λ e. omega arith; miss = λ e. omega arith; mark = λ e. omega arith } refl
+    let after = idling_one u [] record {
+      load = λ e. omega arith;
+      confirm = λ e. omega arith;
+      miss = λ e. omega arith;
+      mark = λ e. omega arith;
+    } refl
     idling_none in record {
       answer = Changed l;
       unlinks = e;
@@ -355,8 +408,10 @@ misses_so z anchor first end l v w sizes few e = let f = may_flush z v e.between
     }
 
 -- After the mark, what was gathered and the marked record may be detached, up to the record behind it.
-pub may_detach_marked : (z : Sizes) (q : ListPass) (call mark_call : Call) (f : Found) (taken : Taken) (before now : ListView) → before.known ≡ q
-    → IsFound z q call f → target (word_of f.end) ≢ 0 → MarksOne z f.word mark_call taken before now → MayDetachRun z now.known f.anchor f.first taken.next
+pub may_detach_marked : (z : Sizes) (q : ListPass) (call mark_call : Call) (f : Found) (taken : Taken) (before now : ListView)
+    → before.known ≡ q
+    → IsFound z q call f → target (word_of f.end) ≢ 0 → MarksOne z f.word mark_call taken before now
+    → MayDetachRun z now.known f.anchor f.first taken.next
 may_detach_marked z q call mark_call f taken before now is found real m = by found.end found.chain
   where
     each : (j : ℕ) → slot now.known j ≡ slot q j
@@ -379,12 +434,16 @@ may_detach_marked z q call mark_call f taken before now is found real m = by fou
         → now.known.own.chain ≡ cond b (q.own.chain ++ record { number = (slot q f.word).named; link = bit_or m.found 1 } ∷ [])
         (record { number = (slot q f.word).named; link = bit_or m.found 1 } ∷ [])
     chain_now b e = ap (λ (p : ListPass). p.own.chain) m.known
-        ∙ (ap (λ (p : ListPass). cond (nat_lt p.own.first 5) (p.own.chain ++ record { number = (slot p f.word).named; link = bit_or m.found 1 } ∷ [])
+        ∙ (ap (λ (p : ListPass). cond (nat_lt p.own.first 5) (p.own.chain ++ record {
+          number = (slot p f.word).named;
+          link = bit_or m.found 1;
+        } ∷ [])
         (record { number = (slot p f.word).named; link = bit_or m.found 1 } ∷ [])) is
         ∙ ap (λ (c : Bool). cond c (q.own.chain ++ record { number = (slot q f.word).named; link = bit_or m.found 1 } ∷ [])
         (record { number = (slot q f.word).named; link = bit_or m.found 1 } ∷ [])) e)
 
-    detach_so : (n : ℕ) (cs : List Gathered) → now.known.own.first ≡ n → now.known.own.chain ≡ cs → n < 5 → cs ≢ [] → target (word_of f.first) ≡ (slot q n).named
+    detach_so : (n : ℕ) (cs : List Gathered) → now.known.own.first ≡ n → now.known.own.chain ≡ cs → n < 5 → cs ≢ [] → target
+        (word_of f.first) ≡ (slot q n).named
         → Joined (slot q n).named cs (target (bit_or m.found 1)) → MayDetachRun z now.known f.anchor f.first taken.next
     detach_so n cs first chain low some_made leads joined = record {
       key = key_of call;
@@ -395,7 +454,8 @@ may_detach_marked z q call mark_call f taken before now is found real m = by fou
       plain_end = m.next_plain;
       small_end = m.next_small;
       leads = leads ∙ ap (λ (s : WalkSlot). s.named) (sym (ap (slot now.known) first ∙ each n));
-      joined = subst (λ (s : WalkSlot). Joined s.named now.known.own.chain (target (word_of taken.next))) (sym (ap (slot now.known) first ∙ each n))
+      joined = subst (λ (s : WalkSlot). Joined s.named now.known.own.chain (target (word_of taken.next)))
+          (sym (ap (slot now.known) first ∙ each n))
           (subst (λ (x : List Gathered). Joined (slot q n).named x (target (word_of taken.next))) (sym chain)
           (subst (λ (x : ℕ). Joined (slot q n).named cs x) (sym m.next_is) joined));
     }
@@ -404,17 +464,22 @@ may_detach_marked z q call mark_call f taken before now is found real m = by fou
     by (at_nil nil _ _ _) c = absurd (real nil)
     by (at_record _ low held named high equal apart other at) (no_chain first chain none first_is) =
         let not_low : nat_lt q.own.first 5 ≡ false = ap (λ (x : ℕ). nat_lt x 5) first in
-        detach_so f.word (record { number = (slot q f.word).named; link = bit_or m.found 1 } ∷ []) (first_now false not_low) (chain_now false not_low) low
+        detach_so f.word (record { number = (slot q f.word).named; link = bit_or m.found 1 } ∷ []) (first_now false not_low)
+        (chain_now false not_low) low
         (λ e. let long : 1 ≡ 0 = ap (λ (l : List Gathered). length l) e in omega arith)
         (ap (λ (l : Link). target (word_of l)) first_is ∙ sym named)
         (more (λ e. real (sym named ∙ e)) refl flag valid (chain_ends refl))
     by (at_record _ low held named high equal apart other at) (a_chain first_low first_held first_apart some_made leads joined count) =
         let is_low : nat_lt q.own.first 5 ≡ true = Rattle.std.proofs.lemmas.Bool.lt-ltb q.own.first 5 first_low in
-        detach_so q.own.first (q.own.chain ++ record { number = (slot q f.word).named; link = bit_or m.found 1 } ∷ []) (first_now true is_low)
+        detach_so q.own.first (q.own.chain ++ record { number = (slot q f.word).named; link = bit_or m.found 1 } ∷ [])
+        (first_now true is_low)
         (chain_now true is_low) first_low (not_none q.own.chain) leads
-        (joined_more (slot q q.own.first).named q.own.chain record { number = (slot q f.word).named; link = bit_or m.found 1 } (slot q f.word).named
-        (subst (λ (x : ℕ). Joined (slot q q.own.first).named q.own.chain x) (sym named) joined) (λ e. real (sym named ∙ e)) refl flag valid)
+        (joined_more (slot q q.own.first).named q.own.chain record { number = (slot q f.word).named; link = bit_or m.found 1 }
+        (slot q f.word).named
+        (subst (λ (x : ℕ). Joined (slot q q.own.first).named q.own.chain x) (sym named) joined)
+        (λ e. real (sym named ∙ e)) refl flag valid)
       where
         not_none : (cs : List Gathered) → cs ++ record { number = (slot q f.word).named; link = bit_or m.found 1 } ∷ [] ≢ []
         not_none cs e = let long = ap (λ (l : List Gathered). length l) e in
-            let sum = Rattle.std.proofs.Common.length-append cs (record { number = (slot q f.word).named; link = bit_or m.found 1 } ∷ []) in omega arith
+            let sum = Rattle.std.proofs.Common.length-append cs
+            (record { number = (slot q f.word).named; link = bit_or m.found 1 } ∷ []) in omega arith

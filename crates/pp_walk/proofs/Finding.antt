@@ -19,7 +19,8 @@ use Rattle.pp_walk.specs.declared.walk.Walk.{Walk}
 use Rattle.pp_walk.specs.declared.walk.Found.{Found}
 use Rattle.pp_walk.specs.Steps.{LeadsTo}
 use Rattle.pp_walk.specs.Words.{IsEmpty, Cleared}
-use Rattle.pp_walk.specs.Roles.{IsAnchor, IsFound, HasChain, no_chain, a_chain, IsEnd, at_nil, at_record, Counts, IsPlain, is_look, most, found_in}
+use Rattle.pp_walk.specs.Roles.{IsAnchor, IsFound, HasChain, no_chain, a_chain, IsEnd, at_nil, at_record, Counts, IsPlain, is_look, most}
+use Rattle.pp_walk.specs.Roles.{found_in}
 use Rattle.pp_walk.specs.Parts.{Stopped, finding, plain_link, GathersNone}
 use Rattle.pp_walk.specs.Effects.{MayFill, MayDetachRun}
 use Rattle.pp_walk.proofs.Standing.{Chains, lets_nothing}
@@ -46,7 +47,8 @@ has_chain q walk n word equal marked c leads first counts = dite (ℕ_discrete q
     (λ e. no_chain e (c.none e) (counts ∙ ap (λ (cs : List Gathered). min (length cs) most) (c.none e))
     (ap (λ (f : ℕ). cond (nat_lt f 5) (plain_link (slot q f).named) (plain_link n)) (first ∙ e)))
     (λ ne. let few = c.few in let lt : q.own.first < 5 = omega arith in
-    let first_is : cond (nat_lt walk.first 5) (plain_link (slot q walk.first).named) (plain_link n) ≡ plain_link (slot q q.own.first).named =
+    let first_is : cond (nat_lt walk.first 5) (plain_link (slot q walk.first).named) (plain_link n) ≡ plain_link
+    (slot q q.own.first).named =
     ap (λ (f : ℕ). cond (nat_lt f 5) (plain_link (slot q f).named) (plain_link n)) first
     ∙ ap (λ (b : Bool). cond b (plain_link (slot q q.own.first).named) (plain_link n)) (below_five q.own.first lt) in
     a_chain lt (c.first_held lt) (c.first_apart lt) (c.some_chain lt)
@@ -63,8 +65,10 @@ plain_first q walk n word equal marked = by (nat_lt walk.first 5)
     by false = plain_bits n
 
 -- It ended at the record in the walk word i.
-pub found_there : (z : Sizes) (q : ListPass) (call : Call) (walk : Walk) (i key link n : ℕ) (equal marked : Bool) → Stopped z q call walk.anchor i key link
-    → n ≡ (slot q i).named → n < 4294967296 → equal ≡ nat_eq key (key_of call) → (is_look call ≡ false → marked ≡ false) → walk.first ≡ q.own.first → Counts q walk.chain
+pub found_there : (z : Sizes) (q : ListPass) (call : Call) (walk : Walk) (i key link n : ℕ) (equal marked : Bool)
+    → Stopped z q call walk.anchor i key link
+    → n ≡ (slot q i).named → n < 4294967296 → equal ≡ nat_eq key (key_of call) → (is_look call ≡ false → marked ≡ false)
+    → walk.first ≡ q.own.first → Counts q walk.chain
     → IsFound z q call (finding walk q n i equal marked)
 found_there z q call walk i key link n equal marked s number small same unmarked first counts = record {
   call_is = s.call_is;
@@ -111,9 +115,11 @@ odd_is n = dite (ℕ_discrete (n % 2) 0)
     (λ ne. ap not (ne_eqb (n % 2) 0 ne) ∙ sym (eq-eqb (n % 2) 1 (omega arith)))
 
 -- It ended at nil.
-pub found_nil : (z : Sizes) (q : ListPass) (call : Call) (walk : Walk) → q.own.call ≡ call → IsAnchor z q (key_of call) walk.anchor → Chains q walk.anchor
+pub found_nil : (z : Sizes) (q : ListPass) (call : Call) (walk : Walk) → q.own.call ≡ call → IsAnchor z q (key_of call) walk.anchor
+    → Chains q walk.anchor
     → (q.own.first < 5 → Joined (slot q q.own.first).named q.own.chain 0) → (is_look call ≡ true → q.own.first ≡ 5)
-    → ((j : ℕ) → j < 5 → Word j ≢ walk.anchor → j ≢ q.own.first → j ≢ q.own.at → IsEmpty (slot q j)) → walk.first ≡ q.own.first → Counts q walk.chain
+    → ((j : ℕ) → j < 5 → Word j ≢ walk.anchor → j ≢ q.own.first → j ≢ q.own.at → IsEmpty (slot q j)) → walk.first ≡ q.own.first
+    → Counts q walk.chain
     → IsFound z q call (finding walk q 0 0 false false)
 found_nil z q call walk call_is anchored chains leads looks empty first counts = record {
   call_is = call_is;

@@ -24,7 +24,8 @@ use Rattle.pp_lists.specs.declared.own.ListOwn.{ListOwn}
 use Rattle.pp_lists.specs.declared.own.Gathered.{Gathered}
 use Rattle.pp_lists.specs.Walks.{bucket, Joined}
 use Rattle.pp_lists.specs.Lists.{ListPass, list_frozen}
-use Rattle.pp_lists.specs.Turns.{ListView, with_own, resting, end_step, found_at, found_of, Ended, EndsWith, PassesBy, StopsAt, gathering, anchored}
+use Rattle.pp_lists.specs.Turns.{ListView, with_own, resting, end_step, found_at, found_of, Ended, EndsWith, PassesBy, StopsAt, gathering}
+use Rattle.pp_lists.specs.Turns.{anchored}
 use Rattle.pp_lists.proofs.Losing.{finds_none, load_valid, load_invalid}
 use Rattle.pp_walk.specs.declared.walk.Walk.{Walk}
 use Rattle.pp_walk.specs.declared.walk.Came.{Came}
@@ -53,12 +54,14 @@ same_cleared : (a b c : ℕ) (v u : ListView) → Cleared a b c v.known u.known 
 same_cleared a b c v u d = record { same = d.same; rest = d.rest }
 
 -- a load of a link without INVALID finds nothing, and one of a link with INVALID loses the turn
-load_ok : (p link : ℕ) (known : ListPass) (v u : ListView) → known.number ≡ v.known.number → known.owned ≡ v.known.owned → invalid_bit link ≡ 0
+load_ok : (p link : ℕ) (known : ListPass) (v u : ListView) → known.number ≡ v.known.number → known.owned ≡ v.known.owned
+    → invalid_bit link ≡ 0
     → MadeQuietStep load_step p link link known v u → Quiet 0 v u
 load_ok p link known v u number owned ok made = quiet_one 0 (loads p link) v u (plain_one (loads p link) known v u number owned made)
     (λ sizes earlier. load_valid sizes earlier p link [] ok ∙ finds_none sizes (loads p link ∷ earlier)) refl
 
-load_bad : (p link : ℕ) (known : ListPass) (v u : ListView) → known.number ≡ v.known.number → known.owned ≡ v.known.owned → invalid_bit link ≡ 1
+load_bad : (p link : ℕ) (known : ListPass) (v u : ListView) → known.number ≡ v.known.number → known.owned ≡ v.known.owned
+    → invalid_bit link ≡ 1
     → MadeQuietStep load_step p link link known v u → Quiet 1 v u
 load_bad p link known v u number owned bad made = quiet_one 1 (loads p link) v u (plain_one (loads p link) known v u number owned made)
     (λ sizes earlier. load_invalid sizes earlier p link bad) refl
@@ -73,7 +76,8 @@ pub read_known : (i f found p : ℕ) (v u : ListView) → ReadField i f found p 
 read_known i f found p v u r = known_after read_step p found found [] [] v.known v u r.made
 
 -- The steps before left what is known of the pass.
-pub here_after : (z : Sizes) (walk : Walk) (w : ℕ) (v v1 u : ListView) (came : Came) → v1.known ≡ v.known → Quiet 0 v v1 → CameHere z walk w v1 u came
+pub here_after : (z : Sizes) (walk : Walk) (w : ℕ) (v v1 u : ListView) (came : Came) → v1.known ≡ v.known → Quiet 0 v v1
+    → CameHere z walk w v1 u came
     → CameHere z walk w v u came
 here_after z walk w v v1 u Moved is quiet c = c
 here_after z walk w v v1 u Broken is quiet c = (same_of v v1 u (same_known v v1 is) c.0, c.1, quiet_both 0 1 1 refl v v1 u quiet c.2)
@@ -104,7 +108,8 @@ here_after z walk w v v1 u (Ends i key link) is quiet c = (
 
 -- The walk stops at the record, whatever becomes of the call.
 stopped_of : (z : Sizes) (q q' : ListPass) (call : Call) (anchor : Place) (w key link : ℕ) → q'.walk ≡ q.walk → q'.own.call ≡ q.own.call
-    → q'.own.at ≡ q.own.at → q'.own.first ≡ q.own.first → q'.own.chain ≡ q.own.chain → Holds z q call anchor w → (slot q w).named ≢ 0 → key ≡ (slot q w).key
+    → q'.own.at ≡ q.own.at → q'.own.first ≡ q.own.first → q'.own.chain ≡ q.own.chain → Holds z q call anchor w → (slot q w).named ≢ 0
+    → key ≡ (slot q w).key
     → key_of call ≤ key → invalid_bit link ≡ 0 → (is_look call ≡ false → flag_bit link ≡ 0) → Stopped z q' call anchor w key link
 stopped_of z q q' call anchor w key link walk same_call same_at first chain h real key_is high valid unmarked = record {
   call_is = same_call ∙ h.call_is;
@@ -137,7 +142,8 @@ stopped_of z q q' call anchor w key link walk same_call same_at first chain h re
     lower lt = subst (λ (f : ℕ). f < 5) first lt
 
 module _ (z : Sizes) (walk : Walk) (w : ℕ) (v : ListView) (h : Holds z v.known walk.call walk.anchor w) where
-  broken : (v2 u : ListView) → SameOf v v2 → Holds z v2.known walk.call walk.anchor w → Quiet 1 v v2 → Cleared 5 5 5 v2.known u.known → Quiet 0 v2 u
+  broken : (v2 u : ListView) → SameOf v v2 → Holds z v2.known walk.call walk.anchor w → Quiet 1 v v2 → Cleared 5 5 5 v2.known u.known
+      → Quiet 0 v2 u
       → CameHere z walk w v u Broken
   broken v2 u same h2 lost c idles = (
     same_of v v2 u same (same_cleared 5 5 5 v2 u c),
@@ -158,7 +164,8 @@ module _ (z : Sizes) (walk : Walk) (w : ℕ) (v : ListView) (h : Holds z v.known
   more_of : ℕ → WalkSlot
   more_of link = record (slot v.known w) { learnt = (0, link) ∷ (slot v.known w).learnt }
 
-  looked : (p link : ℕ) (v2 : ListView) → length v.known.walk ≡ 5 → LoadedLink (learning_at list_frozen (Word w) Left link v.known) link p v v2
+  looked : (p link : ℕ) (v2 : ListView) → length v.known.walk ≡ 5 → LoadedLink
+      (learning_at list_frozen (Word w) Left link v.known) link p v v2
       → Looked p link v2
   unfolding more_of
   looked p link v2 five l = by (list_frozen link && (slot v.known w).held) l.made
@@ -201,7 +208,8 @@ module _ (z : Sizes) (walk : Walk) (w : ℕ) (v : ListView) (h : Holds z v.known
       → LoadedLink (learning_at list_frozen (Word w) Left link v.known) link p v v2 → invalid_bit link ≡ 0 → is_look walk.call ≡ true
       → (slot v.known w).key < key_of walk.call → (slot v.known w).key < 2 ^ 64 → Cleared w 5 5 v2.known u.known → Quiet 0 v2 u
       → CameHere z walk w v u (Anchors w)
-  look_anchors p link v2 u five l ok look less small c idles = let k = looked p link v2 five l in let h2 = k.holds in let first = h2.looks look in
+  look_anchors p link v2 u five l ok look less small c idles = let k = looked p link v2 five l in let h2 = k.holds in
+      let first = h2.looks look in
       let a = anchors_at z v2.known u.known walk.call w h2.going h2.call_is h2.low h2.held h2.stands h2.home
       (subst (λ (n : ℕ). n < key_of walk.call) (sym k.key) less) first (h2.none first) c in
       let key : (slot u.known w).key ≡ (slot v.known w).key = ap (λ (s : WalkSlot). s.key) a.2 ∙ k.key in (
@@ -213,7 +221,8 @@ module _ (z : Sizes) (walk : Walk) (w : ℕ) (v : ListView) (h : Holds z v.known
       )
 
   -- A walk ends with the load of this left link.
-  ends_with : (p key link : ℕ) (u : ListView) → EndsWith v.known.own end_step p link (found_of v.known link) v u → (slot v.known w).named ≢ 0
+  ends_with : (p key link : ℕ) (u : ListView) → EndsWith v.known.own end_step p link (found_of v.known link) v u
+      → (slot v.known w).named ≢ 0
       → key ≡ (slot v.known w).key → key_of walk.call ≤ key → invalid_bit link ≡ 0 → (is_look walk.call ≡ false → flag_bit link ≡ 0)
       → SameOf v u × EndsAt z walk.call walk.anchor w key link v.known.own v u
   ends_with p key link u e real key_is high valid unmarked = by (changes (reply_at v.known.own.call (found_of v.known link))) refl
@@ -225,13 +234,15 @@ module _ (z : Sizes) (walk : Walk) (w : ℕ) (v : ListView) (h : Holds z v.known
       -- what was found, by the walk word
       found_is : (q : ListPass) → ((j : ℕ) → slot q j ≡ slot v.known j)
           → found_of v.known link ≡ found_at (key_of walk.call) (slot q w).key (slot q w).value link
-      found_is q each = ap (λ (c : Call). found_at (key_of c) (slot v.known v.known.own.at).key (slot v.known v.known.own.at).value link) h.call_is
+      found_is q each = ap (λ (c : Call). found_at (key_of c) (slot v.known v.known.own.at).key
+          (slot v.known v.known.own.at).value link) h.call_is
           ∙ (ap (λ (j : ℕ). found_at (key_of walk.call) (slot v.known j).key (slot v.known j).value link) h.stands
           ∙ ap (λ (s : WalkSlot). found_at (key_of walk.call) s.key s.value link) (sym (each w)))
 
       by : (b : Bool) → changes (reply_at v.known.own.call (found_of v.known link)) ≡ b
           → SameOf v u × EndsAt z walk.call walk.anchor w key link v.known.own v u
-      by false c = let s = e.0 c in let calls : List Placed = placed v.known.own.call (reply_at v.known.own.call (found_of v.known link)) s.at ∷ [] in
+      by false c = let s = e.0 c in let calls : List Placed = placed v.known.own.call
+          (reply_at v.known.own.call (found_of v.known link)) s.at ∷ [] in
           let is = known_after end_step p link link [] calls (with_own (resting v.known.own) v.known) v u s.made in
           let each : (j : ℕ) → slot u.known j ≡ slot v.known j = (λ j. ap (λ (q : ListPass). slot q j) is) in (
             record {
@@ -241,7 +252,8 @@ module _ (z : Sizes) (walk : Walk) (w : ℕ) (v : ListView) (h : Holds z v.known
             },
             record {
               stopped = stopped_of z v.known u.known walk.call walk.anchor w key link (ap (λ (q : ListPass). q.walk) is)
-                  (ap (λ (q : ListPass). q.own.call) is) (ap (λ (q : ListPass). q.own.at) is) (ap (λ (q : ListPass). q.own.first) is) (ap (λ (q : ListPass). q.own.chain) is) h real key_is
+                  (ap (λ (q : ListPass). q.own.call) is) (ap (λ (q : ListPass). q.own.at) is) (ap (λ (q : ListPass). q.own.first) is)
+                  (ap (λ (q : ListPass). q.own.chain) is) h real key_is
                   high valid unmarked;
               gathered = record { first = ap (λ (q : ListPass). q.own.first) is; chain = ap (λ (q : ListPass). q.own.chain) is };
               place = p;
@@ -269,7 +281,8 @@ module _ (z : Sizes) (walk : Walk) (w : ℕ) (v : ListView) (h : Holds z v.known
             same_known v u is,
             record {
               stopped = stopped_of z v.known u.known walk.call walk.anchor w key link (ap (λ (q : ListPass). q.walk) is)
-                  (ap (λ (q : ListPass). q.own.call) is) (ap (λ (q : ListPass). q.own.at) is) (ap (λ (q : ListPass). q.own.first) is) (ap (λ (q : ListPass). q.own.chain) is) h real key_is
+                  (ap (λ (q : ListPass). q.own.call) is) (ap (λ (q : ListPass). q.own.at) is) (ap (λ (q : ListPass). q.own.first) is)
+                  (ap (λ (q : ListPass). q.own.chain) is) h real key_is
                   high valid unmarked;
               gathered = record { first = ap (λ (q : ListPass). q.own.first) is; chain = ap (λ (q : ListPass). q.own.chain) is };
               place = p;
@@ -282,7 +295,8 @@ module _ (z : Sizes) (walk : Walk) (w : ℕ) (v : ListView) (h : Holds z v.known
             },
           )
 
-  pub end_broken : (p link : ℕ) (v2 u : ListView) → Ended p link v v2 → invalid_bit link ≡ 1 → Cleared 5 5 5 v2.known u.known → Quiet 0 v2 u
+  pub end_broken : (p link : ℕ) (v2 u : ListView) → Ended p link v v2 → invalid_bit link ≡ 1 → Cleared 5 5 5 v2.known u.known
+      → Quiet 0 v2 u
       → CameHere z walk w v u Broken
   end_broken p link v2 u e bad c idles = let made = e.invalid bad in let is = known_after load_step p link link [] [] v.known v v2 made in
       broken v2 u (same_known v v2 is) (subst (λ (q : ListPass). Holds z q walk.call walk.anchor w) (sym is) h)
@@ -298,7 +312,8 @@ module _ (z : Sizes) (walk : Walk) (w : ℕ) (v : ListView) (h : Holds z v.known
   gathers_here : (p link : ℕ) (u : ListView) → length v.known.walk ≡ 5 → MadeQuietStep load_step p link link (gathering w link v.known) v u
       → (slot v.known w).named ≢ 0 → (slot v.known w).key < 2 ^ 64 → invalid_bit link ≡ 0 → flag_bit link ≡ 1 → is_look walk.call ≡ false
       → CameHere z walk w v u (Gathers w)
-  gathers_here p link u five made real small ok flag change = let is = known_after load_step p link link [] [] (gathering w link v.known) v u made in
+  gathers_here p link u five made real small ok flag change = let is = known_after load_step p link link [] []
+      (gathering w link v.known) v u made in
       let g = gathers_at z v.known walk.call walk.anchor w link five h real flag ok change in
       let key : (slot u.known w).key ≡ (slot v.known w).key = ap (λ (q : ListPass). (slot q w).key) is
       ∙ gathers_key z v.known walk.call walk.anchor w link five h real flag ok change in (
@@ -307,7 +322,8 @@ module _ (z : Sizes) (walk : Walk) (w : ℕ) (v : ListView) (h : Holds z v.known
           rest = subst (λ (q : ListPass). SameRest v.known q) (sym is)
               record { number = refl; sizes = refl; owned = refl; retired_are = refl; frontier = refl; chains = refl; scan = refl };
         },
-        subst (λ (q : ListPass). Rattle.pp_walk.specs.Roles.Walking z q walk.call (Word w) walk.anchor → GathersAt z walk.call walk.anchor w v.known.own u) is
+        subst (λ (q : ListPass). Rattle.pp_walk.specs.Roles.Walking z q walk.call (Word w) walk.anchor
+            → GathersAt z walk.call walk.anchor w v.known.own u) is
             (λ x. record {
               walks = x;
               first = ap (λ (q : ListPass). q.own.first) is;
@@ -318,15 +334,19 @@ module _ (z : Sizes) (walk : Walk) (w : ℕ) (v : ListView) (h : Holds z v.known
         (key, subst (λ (n : ℕ). n < 2 ^ 64) (sym key) small),
       )
 
-  pub pass_broken : (p link : ℕ) (v2 u : ListView) → PassesBy w p link v v2 → invalid_bit link ≡ 1 → Cleared 5 5 5 v2.known u.known → Quiet 0 v2 u
+  pub pass_broken : (p link : ℕ) (v2 u : ListView) → PassesBy w p link v v2 → invalid_bit link ≡ 1 → Cleared 5 5 5 v2.known u.known
+      → Quiet 0 v2 u
       → CameHere z walk w v u Broken
-  pass_broken p link v2 u e bad c idles = let made = e.gathers.invalid bad in let is = known_after load_step p link link [] [] v.known v v2 made in
+  pass_broken p link v2 u e bad c idles = let made = e.gathers.invalid bad in
+      let is = known_after load_step p link link [] [] v.known v v2 made in
       broken v2 u (same_known v v2 is) (subst (λ (q : ListPass). Holds z q walk.call walk.anchor w) (sym is) h)
       (load_bad p link v.known v v2 refl refl bad made) c idles
 
-  pub stop_broken : (p link : ℕ) (v2 u : ListView) → StopsAt w p link v v2 → invalid_bit link ≡ 1 → Cleared 5 5 5 v2.known u.known → Quiet 0 v2 u
+  pub stop_broken : (p link : ℕ) (v2 u : ListView) → StopsAt w p link v v2 → invalid_bit link ≡ 1 → Cleared 5 5 5 v2.known u.known
+      → Quiet 0 v2 u
       → CameHere z walk w v u Broken
-  stop_broken p link v2 u e bad c idles = let made = e.gathers.invalid bad in let is = known_after load_step p link link [] [] v.known v v2 made in
+  stop_broken p link v2 u e bad c idles = let made = e.gathers.invalid bad in
+      let is = known_after load_step p link link [] [] v.known v v2 made in
       broken v2 u (same_known v v2 is) (subst (λ (q : ListPass). Holds z q walk.call walk.anchor w) (sym is) h)
       (load_bad p link v.known v v2 refl refl bad made) c idles
 
@@ -365,5 +385,6 @@ module _ (z : Sizes) (walk : Walk) (w : ℕ) (v : ListView) (h : Holds z v.known
 
   pub stop_stops : (p key link : ℕ) (u : ListView) → StopsAt w p link v u → (slot v.known w).named ≢ 0 → key ≡ (slot v.known w).key
       → key_of walk.call ≤ key → invalid_bit link ≡ 0 → flag_bit link ≡ 0 → CameHere z walk w v u (Ends w key link)
-  stop_stops p key link u e real key_is high ok plain = let x = ends_with p key link u (e.ended ok plain) real key_is high ok (λ _. plain) in
+  stop_stops p key link u e real key_is high ok plain = let x = ends_with p key link u (e.ended ok plain) real key_is high ok
+      (λ _. plain) in
       (x.0, (v, (Rattle.pp_walk.proofs.Counting.quiet_none v, x.1)))

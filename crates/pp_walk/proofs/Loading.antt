@@ -34,7 +34,8 @@ use Rattle.pp_walk.specs.Parts.{LoadsFirst}
 use Rattle.pp_walk.proofs.Standing.{leads_next}
 
 -- A walk depends on the walk words and the list's part alone.
-pub walks_as : (z : Sizes) (q r : ListPass) (call : Call) (at anchor : Place) → r.walk ≡ q.walk → r.own ≡ q.own → Walking z q call at anchor
+pub walks_as : (z : Sizes) (q r : ListPass) (call : Call) (at anchor : Place) → r.walk ≡ q.walk → r.own ≡ q.own
+    → Walking z q call at anchor
     → Walking z r call at anchor
 walks_as z q r call at anchor walk own w = subst (λ (o : ListOwn). Walking z (record r { own = o }) call at anchor) (sym own)
     (subst (λ (ws : List WalkSlot). Walking z (record r { walk = ws; own = q.own }) call at anchor) (sym walk) record {
@@ -77,7 +78,12 @@ load_made own place first v u r = dite (ℕ_discrete (invalid_bit first) 0)
     going not = record { calls = []; then = own; made = r.goes_on not }
 
     by : (b : Bool) → changes (reply_at own.call None) ≡ b → IsNil first → LoadMade own place first v u
-    by false e n = record { calls = placed own.call (reply_at own.call None) ((r.ended n).0 e).at ∷ []; then = resting own; made = ((r.ended n).0 e).made }
+    by false e n = record {
+      calls = placed own.call (reply_at own.call None) ((r.ended n).0 e).at ∷ [];
+      then = resting own;
+      made =
+          ((r.ended n).0 e).made;
+    }
     by true e n = record { calls = []; then = own; made = ((r.ended n).1 e).0 }
 
 pub saw_first : (place first : ℕ) (placed : List Placed) (q : ListPass) (v u : ListView) → q.number ≡ v.known.number
@@ -90,14 +96,17 @@ saw_first place first placed q v u n m = record {
 }
 
 -- a pass sees no less of the log after a step
-pub start_since : (place first : ℕ) (placed : List Placed) (q : ListPass) (v u : ListView) → MadeStep load_step place first first [] placed q v u
+pub start_since : (place first : ℕ) (placed : List Placed) (q : ListPass) (v u : ListView)
+    → MadeStep load_step place first first [] placed q v u
     → length (log_of v.order) ≤ length (log_of u.order)
 start_since place first placed q v u m = let b = seen_begins load_step place first first [] placed q v u m in
-    let l : length (log_of u.order) ≡ length (log_of v.order) + length b.0 = ap (λ (l : List Rattle.pp_model.specs.declared.Change.Change). length l) b.1
+    let l : length (log_of u.order) ≡ length (log_of v.order) + length b.0 = ap
+    (λ (l : List Rattle.pp_model.specs.declared.Change.Change). length l) b.1
     ∙ length-append (log_of v.order) b.0 in omega arith
 
 -- it is still so after more steps
-pub from_on : (fresh : Bool) (call : Call) (own : ListOwn) (v u w : ListView) → u.known.number ≡ v.known.number → From fresh call own v u → Stepped u w
+pub from_on : (fresh : Bool) (call : Call) (own : ListOwn) (v u w : ListView) → u.known.number ≡ v.known.number → From fresh call own v u
+    → Stepped u w
     → From fresh call own v w
 from_on true call own v u w number f s = record {
   start = f.start;
@@ -108,7 +117,8 @@ from_on true call own v u w number f s = record {
     rest = f.saw.rest ++ s.steps;
     saw = f.saw.saw;
     made = subst (λ (n : ℕ). made_by n w.order ≡ made_by n u.order ++ s.steps) number s.made
-        ∙ (ap (λ (l : List Step). l ++ s.steps) f.saw.made ∙ append_assoc (made_by v.known.number v.order) (f.saw.first ∷ f.saw.rest) s.steps);
+        ∙ (ap (λ (l : List Step). l ++ s.steps) f.saw.made ∙ append_assoc (made_by v.known.number v.order)
+        (f.saw.first ∷ f.saw.rest) s.steps);
   };
 }
 from_on false call own v u w number f s = f
@@ -143,7 +153,8 @@ loads_fresh z walk first v u is fresh begins = by (subst (λ (b : Bool). IsUnder
                 gathered = nothing (ap (λ (o : ListOwn). o.first) same_own) (ap (λ (o : ListOwn). o.chain) same_own) refl;
                 stands = tt;
                 looks = λ _. ap (λ (o : ListOwn). o.first) same_own;
-                empty = λ j lt _ _ _. subst (λ (ws : List WalkSlot). IsEmpty (Rattle.std.specs.Prelude.slice_index_or ws j blank)) (sym same_walk) (x.0 j lt);
+                empty = λ j lt _ _ _. subst (λ (ws : List WalkSlot). IsEmpty (Rattle.std.specs.Prelude.slice_index_or ws j blank))
+                    (sym same_walk) (x.0 j lt);
               });
           leads = λ bad. absurd (omega arith);
         }
@@ -166,5 +177,6 @@ loads_later z walk first v u sizes is fresh r = by (subst (λ (b : Bool). IsUnde
     }
 
 -- what a later one asks
-pub under_false : (z : Sizes) (q : ListPass) (walk : Walk) → IsWalk z q walk → walk.fresh ≡ false → Walking z q walk.call walk.at walk.anchor
+pub under_false : (z : Sizes) (q : ListPass) (walk : Walk) → IsWalk z q walk → walk.fresh ≡ false
+    → Walking z q walk.call walk.at walk.anchor
 under_false z q walk is fresh = (subst (λ (b : Bool). IsUnder b z q walk) fresh is.under).0

@@ -100,10 +100,12 @@ pub on_moved : (z : Sizes) (walk : Walk) (place first : ℕ) (v u : ListView) �
 on_moved z walk place first v u look l = (record { same = l.same; rest = l.rest }, l.walks, l.gathered, l.turn, look)
 
 -- It moved, and the call begins again.
-pub on_broken : (z : Sizes) (walk : Walk) (place first : ℕ) (v u t : ListView) → LosesNext z walk place first v u → Cleared 5 5 5 u.known t.known
+pub on_broken : (z : Sizes) (walk : Walk) (place first : ℕ) (v u t : ListView) → LosesNext z walk place first v u
+    → Cleared 5 5 5 u.known t.known
     → Quiet 0 u t → CameOn z walk place first v t Broken
 on_broken z walk place first v u t l c idles = (
   same_of v u t record { same = l.same; rest = l.rest } record { same = c.same; rest = c.rest },
-  begins_again u.known t.known walk.call walk.anchor l.walks.going l.walks.call_is (chains_of u.known walk.at walk.anchor l.walks.gathered) c,
+  begins_again u.known t.known walk.call walk.anchor l.walks.going l.walks.call_is
+      (chains_of u.known walk.at walk.anchor l.walks.gathered) c,
   rest_quiet 1 0 1 refl place first v u t l.turn idles,
 )

@@ -65,7 +65,13 @@ pub record Standing (z : Sizes) (q : ListPass) (call : Call) (at anchor : Place)
   pub stands : StandsOn z q (key_of call) at
 
 pub standing_of : (z : Sizes) (q : ListPass) (call : Call) (at anchor : Place) → Walking z q call at anchor → Standing z q call at anchor
-standing_of z q call at anchor w = record { going = w.going; call_is = w.call_is; anchored = w.anchored; gathered = w.gathered; stands = w.stands }
+standing_of z q call at anchor w = record {
+  going = w.going;
+  call_is = w.call_is;
+  anchored = w.anchored;
+  gathered = w.gathered;
+  stands = w.stands;
+}
 
 pub readable : (z : Sizes) (q : ListPass) (call : Call) (at anchor : Place) → Standing z q call at anchor → IsReadable 1 z q at Left
 readable z q call (Head h) anchor w = by w.gathered
@@ -85,7 +91,8 @@ stands_at z q call at anchor w = subst (λ (c : Call). StandsAt z q (key_of c) (
     by (Head h) (chained i link is _ _ _ _ _ _ _ _) s = absurd (let e : Head h ≡ Word i = is in cc)
     by (Word i) g s = on_record (subst (λ (j : ℕ). j < 5) (sym s.2) s.0)
         (ap (λ (j : ℕ). cell_place z (slot q j).named 2) (sym s.2)) (ap (λ (j : ℕ). bucket z.heads (slot q j).key) s.2 ∙ s.3)
-        (subst (λ (j : ℕ). ((slot q j).key < key_of call) ⊎ ((w : ℕ) × (IsIn (0, w) (slot q j).learnt × (flag_bit w ≡ 1)))) (sym s.2) (low g))
+        (subst (λ (j : ℕ). ((slot q j).key < key_of call) ⊎ ((w : ℕ) × (IsIn (0, w) (slot q j).learnt × (flag_bit w ≡ 1)))) (sym s.2)
+        (low g))
       where
         low : HasGathered q (Word i) anchor
             → ((slot q i).key < key_of call) ⊎ ((w : ℕ) × (IsIn (0, w) (slot q i).learnt × (flag_bit w ≡ 1)))
@@ -108,7 +115,8 @@ leads_next z q call at anchor found sizes w finds low = by at w.gathered w.stand
         (subst (λ (k : ℕ). IsIn (0, link) (slot q k).learnt) e learnt))) joined
 
 -- an anchor stays where its walk word does
-pub anchor_on : (z : Sizes) (q q' : ListPass) (k : ℕ) (anchor : Place) → ((j : ℕ) → anchor ≡ Word j → slot q' j ≡ slot q j) → IsAnchor z q k anchor
+pub anchor_on : (z : Sizes) (q q' : ListPass) (k : ℕ) (anchor : Place) → ((j : ℕ) → anchor ≡ Word j → slot q' j ≡ slot q j)
+    → IsAnchor z q k anchor
     → IsAnchor z q' k anchor
 anchor_on z q q' k (Head h) same a = a
 anchor_on z q q' k (Word i) same a = let e = same i refl in (
@@ -119,9 +127,11 @@ anchor_on z q q' k (Word i) same a = let e = same i refl in (
 )
 
 -- The walk stands as it did where one walk word that has no role has changed.
-pub standing_on : (z : Sizes) (q q' : ListPass) (call : Call) (at anchor : Place) (w : ℕ) → Standing z q call at anchor → Word w ≢ at → Word w ≢ anchor
+pub standing_on : (z : Sizes) (q q' : ListPass) (call : Call) (at anchor : Place) (w : ℕ) → Standing z q call at anchor → Word w ≢ at
+    → Word w ≢ anchor
     → w ≢ q.own.first → ((j : ℕ) → j ≢ w → slot q' j ≡ slot q j) → q'.own.going ≡ q.own.going → q'.own.call ≡ q.own.call
-    → q'.own.first ≡ q.own.first → q'.own.chain ≡ q.own.chain → ((i : ℕ) → q.own.at ≡ i → i ≢ w → q'.own.at ≡ i) → Standing z q' call at anchor
+    → q'.own.first ≡ q.own.first → q'.own.chain ≡ q.own.chain → ((i : ℕ) → q.own.at ≡ i → i ≢ w → q'.own.at ≡ i)
+    → Standing z q' call at anchor
 standing_on z q q' call at anchor w s ne_at ne_anchor ne_first others going same_call first chain stays = record {
   going = going ∙ s.going;
   call_is = same_call ∙ s.call_is;
@@ -152,7 +162,8 @@ standing_on z q q' call at anchor w s ne_at ne_anchor ne_first others going same
         (subst (λ (cs : List Gathered). Joined (slot q q.own.first).named cs (target link)) (sym chain) joined))
 
 -- and where that word is empty again, all is as it was
-pub walking_on : (z : Sizes) (q q' : ListPass) (call : Call) (at anchor : Place) (w : ℕ) → Walking z q call at anchor → Standing z q' call at anchor
+pub walking_on : (z : Sizes) (q q' : ListPass) (call : Call) (at anchor : Place) (w : ℕ) → Walking z q call at anchor
+    → Standing z q' call at anchor
     → IsEmpty (slot q' w) → ((j : ℕ) → j ≢ w → slot q' j ≡ slot q j) → q'.own.first ≡ q.own.first → Walking z q' call at anchor
 walking_on z q q' call at anchor w s n empty others first = record {
   going = n.going;
@@ -166,7 +177,8 @@ walking_on z q q' call at anchor w s n empty others first = record {
 }
 
 -- The next record is held in the walk word w, and all words without a role are cleared.
-module _ (z : Sizes) (q q' r : ListPass) (call : Call) (at anchor : Place) (w n key : ℕ) (value : Halves) (s : Walking z q call at anchor) (low : w < 5)
+module _ (z : Sizes) (q q' r : ListPass) (call : Call) (at anchor : Place) (w n key : ℕ) (value : Halves)
+    (s : Walking z q call at anchor) (low : w < 5)
     (ne_anchor : Word w ≢ anchor) (ne_first : w ≢ q.own.first) (here : slot q' w ≡ holding n key value)
     (others : (j : ℕ) → j ≢ w → slot q' j ≡ slot q j) (own : q'.own ≡ record q.own { at = w })
     (home : bucket z.heads key ≡ bucket z.heads (key_of call))
@@ -191,7 +203,8 @@ module _ (z : Sizes) (q q' r : ListPass) (call : Call) (at anchor : Place) (w n 
       (g.0 ∙ first_q, g.1 ∙ ap (λ (o : ListOwn). o.chain) own)
 
   anchor_word : (j : ℕ) → anchor ≡ Word j → slot r j ≡ slot q j
-  anchor_word j e = c.kept j (kept_is (word_in anchor) q.own.first w j (inl (ap word_in (sym e)))) ∙ others j (λ f. ne_anchor (ap Word (sym f) ∙ sym e))
+  anchor_word j e = c.kept j (kept_is (word_in anchor) q.own.first w j (inl (ap word_in (sym e)))) ∙ others j
+      (λ f. ne_anchor (ap Word (sym f) ∙ sym e))
 
   r_first : slot r r.own.first ≡ slot q q.own.first
   r_first = ap (slot r) same_gathered.0 ∙ slot_first
@@ -265,8 +278,10 @@ holds_learnt z q q' call anchor w h own here others = let first = ap (λ (o : Li
     still lt = ap (slot q') (ap (λ (o : ListOwn). o.first) own) ∙ others q.own.first (h.first_apart (r_low lt)).1
 
 -- The record in the walk word w is the anchor, and the call stands there. All other walk words are cleared.
-pub anchors_at : (z : Sizes) (q r : ListPass) (call : Call) (w : ℕ) → q.own.going ≡ true → q.own.call ≡ call → w < 5 → (slot q w).held ≡ true
-    → q.own.at ≡ w → bucket z.heads (slot q w).key ≡ bucket z.heads (key_of call) → (slot q w).key < key_of call → q.own.first ≡ 5 → q.own.chain ≡ []
+pub anchors_at : (z : Sizes) (q r : ListPass) (call : Call) (w : ℕ) → q.own.going ≡ true → q.own.call ≡ call → w < 5
+    → (slot q w).held ≡ true
+    → q.own.at ≡ w → bucket z.heads (slot q w).key ≡ bucket z.heads (key_of call) → (slot q w).key < key_of call → q.own.first ≡ 5
+    → q.own.chain ≡ []
     → Cleared w 5 5 q r → Walking z r call (Word w) (Word w) × GathersNone r.own × (slot r w ≡ slot q w)
 anchors_at z q r call w going call_is low held at home less first chain c =
     let keeps : is_kept w 5 5 w ≡ true = kept_is w 5 5 w (inl refl) in let here = c.kept w keeps in let none = c.none first chain in (
@@ -324,13 +339,15 @@ module _ (z : Sizes) (q : ListPass) (call : Call) (anchor : Place) (w link : ℕ
   not_look : is_look call ≡ true → ⊥
   not_look l = true≢false (sym l ∙ changes)
 
-  walks_by : (b : Bool) → ltb q.own.first 5 ≡ b → Walking z (after_it b) call (Word w) anchor × (length (after_it b).own.chain ≡ length q.own.chain + 1)
+  walks_by : (b : Bool) → ltb q.own.first 5 ≡ b → Walking z (after_it b) call (Word w) anchor
+      × (length (after_it b).own.chain ≡ length q.own.chain + 1)
   walks_by true is = let low : q.own.first < 5 = ltb-true q.own.first 5 is in
       let other = (h.first_apart low).1 in let still = else_same true q.own.first other in (
         record {
           going = h.going;
           call_is = h.call_is;
-          anchored = anchor_on z q (after_it true) (key_of call) anchor (λ j e. else_same true j (λ f. h.apart (e ∙ ap Word f))) h.anchored;
+          anchored = anchor_on z q (after_it true) (key_of call) anchor
+              (λ j e. else_same true j (λ f. h.apart (e ∙ ap Word f))) h.anchored;
           gathered = chained w link refl low (ap (λ (s : WalkSlot). s.held) still ∙ h.first_held low) h.apart (h.first_apart low).0
               (not_none q.own.chain) (subst (λ (s : WalkSlot). IsIn (0, link) s.learnt) (sym (here true)) (0, refl)) flag
               (subst (λ (s : WalkSlot). Joined s.named (q.own.chain ++ joining ∷ []) (target link)) (sym still)
@@ -354,11 +371,13 @@ module _ (z : Sizes) (q : ListPass) (call : Call) (anchor : Place) (w link : ℕ
         record {
           going = h.going;
           call_is = h.call_is;
-          anchored = anchor_on z q (after_it false) (key_of call) anchor (λ j e. else_same false j (λ f. h.apart (e ∙ ap Word f))) h.anchored;
+          anchored = anchor_on z q (after_it false) (key_of call) anchor
+              (λ j e. else_same false j (λ f. h.apart (e ∙ ap Word f))) h.anchored;
           gathered = chained w link refl h.low (ap (λ (s : WalkSlot). s.held) (here false) ∙ h.held) h.apart h.apart
               (λ e. let long : 1 ≡ 0 = ap (λ (l : List Gathered). length l) e in omega arith)
               (subst (λ (s : WalkSlot). IsIn (0, link) s.learnt) (sym (here false)) (0, refl)) flag
-              (subst (λ (s : WalkSlot). Joined s.named (joining ∷ []) (target link)) (sym (here false)) (more real refl flag valid (done refl)));
+              (subst (λ (s : WalkSlot). Joined s.named (joining ∷ []) (target link)) (sym (here false))
+              (more real refl flag valid (done refl)));
           stands = (
             h.low,
             ap (λ (s : WalkSlot). s.held) (here false) ∙ h.held,
@@ -389,7 +408,8 @@ pub all_empty : (q r : ListPass) → Cleared 5 5 5 q r → AllEmpty r
 all_empty q r c j lt = c.empty j lt (kept_none 5 5 5 j (λ e. omega arith) (λ e. omega arith) (λ e. omega arith))
 
 -- so the call begins again at its head
-pub begins_again : (q r : ListPass) (call : Call) (anchor : Place) → q.own.going ≡ true → q.own.call ≡ call → Chains q anchor → Cleared 5 5 5 q r
+pub begins_again : (q r : ListPass) (call : Call) (anchor : Place) → q.own.going ≡ true → q.own.call ≡ call → Chains q anchor
+    → Cleared 5 5 5 q r
     → BeginsAgain r call
 begins_again q r call anchor going call_is chains c = record {
   going = c.going ∙ going;

@@ -1,5 +1,6 @@
 -- What stays of a pass over a list's own steps.
-use Rattle.std.proofs.Common.{◌≡◌, ◌≢◌, ◌⊎◌, inl, inr, ⊎_elim, ℕ, zero, suc, ◌+◌, ◌<◌, ◌≤◌, Bool, true, false, List, [], ◌∷◌, map, length, set, take}
+use Rattle.std.proofs.Common.{◌≡◌, ◌≢◌, ◌⊎◌, inl, inr, ⊎_elim, ℕ, zero, suc, ◌+◌, ◌<◌, ◌≤◌, Bool, true, false, List, [], ◌∷◌, map, length}
+use Rattle.std.proofs.Common.{set, take}
 use Rattle.std.proofs.Common.{get_or, sym, refl, ap, ◌∙◌, subst, arith, Option, None}
 use Rattle.std.proofs.Math.Decide.{ℕ_discrete}
 use mathlib.Core.Logic.{dite}
@@ -36,7 +37,8 @@ abbrev ListMe : Type 0
 ListMe = Me Unit ListView
 
 -- the names where a walk word has another slot that names the same record
-named_same : (ws : List WalkSlot) (i : ℕ) (w : WalkSlot) → w.named ≡ (get_or ws i blank).named → map named_of (set ws i w) ≡ map named_of ws
+named_same : (ws : List WalkSlot) (i : ℕ) (w : WalkSlot) → w.named ≡ (get_or ws i blank).named → map named_of
+    (set ws i w) ≡ map named_of ws
 named_same [] i w same = refl
 named_same (v ∷ ws) zero w same = ap (λ (n : ℕ). n ∷ map named_of ws) same
 named_same (v ∷ ws) (suc i) w same = ap (λ (ns : List ℕ). v.named ∷ ns) (named_same ws i w same)
@@ -129,7 +131,8 @@ module _ {v : ListView} {m : ListMe} (none : m.1 ≡ []) where
       flagged n ne = omega arith
 
 -- so the pass agrees with what its seat knows
-pub keeping_stays : (s s' : Seat Unit ListView) (z : Sizes) (number share : ℕ) (walk : List ℕ) (p : Purse) → Keeping 0 1 s number share walk p
+pub keeping_stays : (s s' : Seat Unit ListView) (z : Sizes) (number share : ℕ) (walk : List ℕ) (p : Purse)
+    → Keeping 0 1 s number share walk p
     → IsPassOf z (known s') → StaysPass s.me.0 s'.me → Keeping 0 1 s' number share walk p
 keeping_stays s s' z number share walk p k pass y = keeping_steady 0 1 s s' z number share walk walk p k y.lone pass
     record {
@@ -154,7 +157,8 @@ one_fewer (e ∷ ds) (suc i) d at = ap suc (one_fewer ds i d at)
 times_removed : (n : ℕ) (ds : List PrivateRecord) (i : ℕ) (d : PrivateRecord) → get_elem? ds i ≡ some d
     → times n (map number_of ds) ≡ times n (d.number ∷ map number_of (remove_at i ds))
 times_removed n [] i d at = absurd (Rattle.pp_rule.proofs.Put.in_nil d (i, at))
-times_removed n (e ∷ ds) zero d at = ap (λ (x : PrivateRecord). times n (x.number ∷ map number_of ds)) (mathlib.Core.Option.some-injective e d at)
+times_removed n (e ∷ ds) zero d at = ap (λ (x : PrivateRecord). times n (x.number ∷ map number_of ds))
+    (mathlib.Core.Option.some-injective e d at)
 times_removed n (e ∷ ds) (suc i) d at = let rest = times_removed n ds i d at in dite (ℕ_discrete e.number n)
     (λ hit. let a = times_here n e.number (map number_of ds) hit in let b = times_here n e.number (map number_of (remove_at i ds)) hit in
     dite (ℕ_discrete d.number n)
@@ -162,7 +166,8 @@ times_removed n (e ∷ ds) (suc i) d at = let rest = times_removed n ds i d at i
     let f = times_here n d.number (e.number ∷ map number_of (remove_at i ds)) same in omega arith)
     (λ ne. let c = times_else n d.number (map number_of (remove_at i ds)) ne in
     let f = times_else n d.number (e.number ∷ map number_of (remove_at i ds)) ne in omega arith))
-    (λ other. let a = times_else n e.number (map number_of ds) other in let b = times_else n e.number (map number_of (remove_at i ds)) other in
+    (λ other. let a = times_else n e.number (map number_of ds) other in let b = times_else n e.number
+    (map number_of (remove_at i ds)) other in
     dite (ℕ_discrete d.number n)
     (λ same. let c = times_here n d.number (map number_of (remove_at i ds)) same in
     let f = times_here n d.number (e.number ∷ map number_of (remove_at i ds)) same in omega arith)
@@ -184,8 +189,10 @@ module _ (s s' : Seat Unit ListView) (z : Sizes) (number share : ℕ) (walk : Li
         walk_is = ap (λ (q : ListPass). map named_of q.walk) is ∙ kept.walk_is;
         frontier = ap (λ (q : ListPass). q.frontier) is ∙ kept.frontier;
         free = λ m. subst (λ (ds : List PrivateRecord). times m p.free.items ≤ times m (map number_of ds)) (sym owned) (still_free m);
-        retired_are = subst (λ (l : List ℕ). take (length l) p.retired.items ≡ l) (sym (ap (λ (q : ListPass). q.retired) is)) kept.retired_are;
-        retired_count = subst (λ (l : List ℕ). length p.retired.items ≡ length l + p.spent) (sym (ap (λ (q : ListPass). q.retired) is)) kept.retired_count;
+        retired_are = subst (λ (l : List ℕ). take (length l) p.retired.items ≡ l)
+            (sym (ap (λ (q : ListPass). q.retired) is)) kept.retired_are;
+        retired_count = subst (λ (l : List ℕ). length p.retired.items ≡ length l + p.spent)
+            (sym (ap (λ (q : ListPass). q.retired) is)) kept.retired_count;
         chains = ap (λ (q : ListPass). map in_hand_of q.chains) is ∙ kept.chains;
         few = kept.few;
         counted = let was = kept.counted in let fewer = one_fewer (known s).owned t.index t.was t.at in
@@ -196,7 +203,8 @@ module _ (s s' : Seat Unit ListView) (z : Sizes) (number share : ℕ) (walk : Li
       (λ ne. keeping_stays s s' z number share walk p kept pass (stays none (t.made.other ne) refl refl refl refl refl refl refl))
     where
       still_free : (m : ℕ) → times m p.free.items ≤ times m (map number_of (remove_at t.index (known s).owned))
-      still_free m = let was = kept.free m in let removed = times_removed m (known s).owned t.index t.was t.at in dite (ℕ_discrete t.was.number m)
+      still_free m = let was = kept.free m in let removed = times_removed m (known s).owned t.index t.was t.at in dite
+          (ℕ_discrete t.was.number m)
           (λ hit. let one = times_here m t.was.number (map number_of (remove_at t.index (known s).owned)) hit in
           let less : times m p.free.items < times m (owned_numbers (known s)) =
           subst (λ (x : ℕ). times x p.free.items < times x (owned_numbers (known s))) (sym t.number_is ∙ hit) taken in omega arith)
@@ -210,9 +218,11 @@ module _ (s s' : Seat Unit ListView) (z : Sizes) (number share : ℕ) (walk : Li
       record { table_is = table; number = ap (λ (q : ListPass). q.number) is; sizes = ap (λ (q : ListPass). q.sizes) is })
 
   pub lone_published : IsAlone s'.me
-  lone_published = dite (ℕ_discrete found first) (λ hit. made_alone s'.me none (t.made.same hit)) (λ ne. made_alone s'.me none (t.made.other ne))
+  lone_published = dite (ℕ_discrete found first) (λ hit. made_alone s'.me none (t.made.same hit))
+      (λ ne. made_alone s'.me none (t.made.other ne))
 
-pub published_lone : (i number place k v first new found : ℕ) (before : ListView) (m : ListMe) → m.1 ≡ [] → Published i number place k v first new found before m.0
+pub published_lone : (i number place k v first new found : ℕ) (before : ListView) (m : ListMe) → m.1 ≡ []
+    → Published i number place k v first new found before m.0
     → IsAlone m
 published_lone i number place k v first new found before m none t = dite (ℕ_discrete found first) (λ hit. made_alone m none (t.same hit))
     (λ ne. made_alone m none (t.other ne))

@@ -79,14 +79,16 @@ again_walk z q walk low home b = record {
 }
 
 own_before : (u w : ListView) → Stepped u w → HasOwn w.order → HasOwn u.order
-own_before u w s own x i = own x (subst (λ (o : List (LoggedStep Change Placed)). IsIn x o) (sym s.order.1) (in_left x u.order s.order.0 i))
+own_before u w s own x i = own x (subst (λ (o : List (LoggedStep Change Placed)). IsIn x o) (sym s.order.1)
+    (in_left x u.order s.order.0 i))
 
 -- the steps of a turn whose first load found INVALID
 rest_bad : (place first : ℕ) (u w : ListView) → invalid_bit first ≡ 1 → Quiet 0 u w → RestOfTurn 1 place first u w
 rest_bad place first u w bad q = record {
   steps = q.steps;
   did = q.did;
-  loses = λ sizes earlier. let all = finds_append sizes earlier (loads place first ∷ []) q.steps in let a = load_invalid sizes earlier place first bad in
+  loses = λ sizes earlier. let all = finds_append sizes earlier (loads place first ∷ []) q.steps in
+      let a = load_invalid sizes earlier place first bad in
       let b = q.loses sizes (loads place first ∷ earlier) in let more = onto_one place first earlier q.steps sizes in omega arith;
   writes = q.writes;
 }
@@ -100,7 +102,8 @@ rest_bad place first u w bad q = record {
 module _ (z : Sizes) (walk : Walk) (first : ℕ) (v u : ListView) (is : IsWalk z v.known walk) (l : LoadsFirst z walk first v u)
     (going : IsNil first → ⊥) where
   known_u : u.known ≡ with_own l.own v.known
-  known_u = known_after load_step (source_place z v.known walk.at Left) first first [] [] (with_own l.own v.known) v u (l.reached.goes_on going)
+  known_u = known_after load_step (source_place z v.known walk.at Left) first first [] [] (with_own l.own v.known) v u
+      (l.reached.goes_on going)
 
   pub own_u : u.known.own ≡ l.own
   own_u = ap (λ (q : ListPass). q.own) known_u
@@ -134,12 +137,19 @@ module _ (z : Sizes) (walk : Walk) (first : ℕ) (v u : ListView) (is : IsWalk z
   turned_rest lost w s r = let place : ℕ = source_place z v.known walk.at Left in
       let rest : RestOfTurn lost place first u w = subst (λ (p : ℕ). RestOfTurn lost p first u w) place_u r in
       let steps : List NamedStep = loads place first ∷ rest.steps in
-      let did : Made steps v w = (u, (plain_one (loads place first) (with_own l.own v.known) v u refl refl (l.reached.goes_on going), rest.did)) in
+      let did : Made steps v w = (
+        u,
+        (
+          plain_one (loads place first) (with_own l.own v.known) v u refl refl (l.reached.goes_on going),
+          rest.did,
+        ),
+      ) in
       let after : Stepped u w = (strand_made rest.steps u w rest.did).stepped in record {
         from = from_on walk.fresh walk.call l.own v u w (ap (λ (q : ListPass). q.number) known_u) l.from after;
         same = call_u w s.same;
         rest = rest_through v.known u.known w.known rest_u s.rest;
-        trod = trod_of lost steps [] v w (strand_made steps v w did) (omega arith) rest.loses (writes_one (loads place first) rest.steps refl rest.writes);
+        trod = trod_of lost steps [] v w (strand_made steps v w did) (omega arith) rest.loses
+            (writes_one (loads place first) rest.steps refl rest.writes);
         stands = λ own st. stands_made steps v w did own st;
       }
 
@@ -151,13 +161,21 @@ module _ (z : Sizes) (walk : Walk) (first : ℕ) (v u : ListView) (is : IsWalk z
       let rest : RestOfTurn 0 place first u last = subst (λ (p : ℕ). RestOfTurn 0 p first u last) place_u r in
       let steps : List NamedStep = loads place first ∷ rest.steps in
       let stop : NamedStep = record { kind = end_step; place = e.place; word = link } in
-      let did : Made steps v last = (u, (plain_one (loads place first) (with_own l.own v.known) v u refl refl (l.reached.goes_on going), rest.did)) in
+      let did : Made steps v last = (
+        u,
+        (
+          plain_one (loads place first) (with_own l.own v.known) v u refl refl (l.reached.goes_on going),
+          rest.did,
+        ),
+      ) in
       let one = strand_one end_step e.place link link [] e.calls e.ends.known last w e.ends.made e.ends.number in
-      let after : Stepped u w = (strand_both rest.steps (stop ∷ []) [] e.calls u last w (strand_made rest.steps u last rest.did) one).stepped in record {
+      let after : Stepped u w = (strand_both rest.steps (stop ∷ []) [] e.calls u last w
+      (strand_made rest.steps u last rest.did) one).stepped in record {
         from = from_on walk.fresh walk.call l.own v u w (ap (λ (q : ListPass). q.number) known_u) l.from after;
         same = call_u w s.same;
         rest = rest_through v.known u.known w.known rest_u s.rest;
-        trod = trod_of 0 (steps ++ stop ∷ []) e.calls v w (strand_both steps (stop ∷ []) [] e.calls v last w (strand_made steps v last did) one)
+        trod = trod_of 0 (steps ++ stop ∷ []) e.calls v w (strand_both steps (stop ∷ []) [] e.calls v last w
+            (strand_made steps v last did) one)
             (omega arith) (λ sizes earlier. let all = finds_append sizes earlier steps (stop ∷ []) in let a = rest.loses sizes earlier in
             let b = idle_finds sizes (onto steps earlier) (stop ∷ []) (λ t i. subst (λ (x : NamedStep).
             Rattle.pp_lists.proofs.Losing.IsIdleKind x.kind) (in_one t stop i) record {
@@ -166,12 +184,15 @@ module _ (z : Sizes) (walk : Walk) (first : ℕ) (v u : ListView) (is : IsWalk z
               miss = λ e. omega arith;
               mark = λ e. omega arith;
             }) in omega arith)
-            (writes_both steps (stop ∷ []) (writes_one (loads place first) rest.steps refl rest.writes) (writes_one stop [] refl writes_none));
-        stands = λ own st. by (changes (reply_at u.known.own.call (found_at (key_of call) (slot w.known i).key (slot w.known i).value link))) refl own
+            (writes_both steps (stop ∷ []) (writes_one (loads place first) rest.steps refl rest.writes)
+            (writes_one stop [] refl writes_none));
+        stands = λ own st. by (changes (reply_at u.known.own.call
+            (found_at (key_of call) (slot w.known i).key (slot w.known i).value link))) refl own
             (stands_made steps v last did (own_before last w one.stepped own) st);
       }
     where
-      by : (b : Bool) → changes (reply_at u.known.own.call (found_at (key_of call) (slot w.known i).key (slot w.known i).value link)) ≡ b → HasOwn w.order
+      by : (b : Bool) → changes (reply_at u.known.own.call (found_at (key_of call) (slot w.known i).key (slot w.known i).value link)) ≡ b
+          → HasOwn w.order
           → StandsThen last → StandsThen w
       by false c own st = (e.answers.settled c).1.stands
       by true c own st = stands_one last w (subst (λ (cs : List Placed). MadeStep end_step e.place link link [] cs e.ends.known last w)
@@ -183,7 +204,8 @@ module _ (z : Sizes) (walk : Walk) (first : ℕ) (v u : ListView) (is : IsWalk z
       (chains_of u.known walk.at walk.anchor walks_u.gathered) c in record {
         goes = record {
           own = l.own;
-          turned = turned_rest 1 w record { same = c.same; rest = c.rest } (rest_bad (source_place z u.known walk.at Left) first u w bad q);
+          turned = turned_rest 1 w record { same = c.same; rest = c.rest }
+              (rest_bad (source_place z u.known walk.at Left) first u w bad q);
           walks = again_walk z w.known walk is.low is.home b;
           under_way = refl;
         };
@@ -279,21 +301,25 @@ module _ (z : Sizes) (walk : Walk) (first : ℕ) (v u : ListView) (is : IsWalk z
 
   -- It ended at the record in the walk word i.
   pub turn_ends : (i key link n : ℕ) (equal marked : Bool) (w : ListView)
-      → CameOn z (started walk) (source_place z u.known walk.at Left) first u w (Ends i key link) → n ≡ (slot w.known i).named → n < 4294967296
+      → CameOn z (started walk) (source_place z u.known walk.at Left) first u w (Ends i key link) → n ≡ (slot w.known i).named
+      → n < 4294967296
       → equal ≡ nat_eq key (key_of walk.call) → marked ≡ nat_eq (flag_bit link) 1
       → Arrives z walk (finding (started walk) w.known n i equal marked) v w
-  turn_ends i key link n equal marked w c number small same marks = let last : ListView = c.1.0 in let e = c.1.1.1 in let s = e.stopped in record {
-    own = l.own;
-    calls = e.calls;
-    turned = turned_end walk.call walk.anchor i key link last w c.0 c.1.1.0 e;
-    found = found_there z w.known walk.call (started walk) i key link n equal marked s number small same
-        (λ no. marks ∙ Rattle.std.proofs.Common.ne_eqb (flag_bit link) 1 (λ f. let plain = s.unmarked no in omega arith))
-        (gathered_u ∙ sym e.gathered.first)
-        (counts_u ∙ ap (λ (cs : List Rattle.pp_lists.specs.declared.own.Gathered.Gathered). min (length cs) most) (sym e.gathered.chain));
-    answers = subst (λ (a : Option ℕ). Answers l.own a e.calls w)
-        (found_is w.known walk.call (started walk) i key link n equal marked s.key_is same marks)
-        (subst (λ (o : ListOwn). Answers o (found_at (key_of walk.call) (slot w.known i).key (slot w.known i).value link) e.calls w) own_u e.answers);
-  }
+  turn_ends i key link n equal marked w c number small same marks = let last : ListView = c.1.0 in let e = c.1.1.1 in
+      let s = e.stopped in record {
+        own = l.own;
+        calls = e.calls;
+        turned = turned_end walk.call walk.anchor i key link last w c.0 c.1.1.0 e;
+        found = found_there z w.known walk.call (started walk) i key link n equal marked s number small same
+            (λ no. marks ∙ Rattle.std.proofs.Common.ne_eqb (flag_bit link) 1 (λ f. let plain = s.unmarked no in omega arith))
+            (gathered_u ∙ sym e.gathered.first)
+            (counts_u ∙ ap (λ (cs : List Rattle.pp_lists.specs.declared.own.Gathered.Gathered). min (length cs) most)
+            (sym e.gathered.chain));
+        answers = subst (λ (a : Option ℕ). Answers l.own a e.calls w)
+            (found_is w.known walk.call (started walk) i key link n equal marked s.key_is same marks)
+            (subst (λ (o : ListOwn). Answers o (found_at (key_of walk.call) (slot w.known i).key
+            (slot w.known i).value link) e.calls w) own_u e.answers);
+      }
 
 -- It ended at nil, by its first load.
 pub turn_nil : (z : Sizes) (walk : Walk) (first : ℕ) (v u : ListView) → IsWalk z v.known walk → LoadsFirst z walk first v u → IsNil first
@@ -307,7 +333,8 @@ turn_nil z walk first v u is l nil = by (changes (reply_at l.own.call None)) ref
     walks_0 = l.walks (with_own l.own v.known) refl refl refl
 
     -- whatever was placed, if the list's part is the same but for whether the call walks
-    made_so : (calls : List Placed) (then : ListOwn) → MadeStep load_step (source_place z v.known walk.at Left) first first [] calls (with_own then v.known) v u
+    made_so : (calls : List Placed) (then : ListOwn) → MadeStep load_step (source_place z v.known walk.at Left) first first [] calls
+        (with_own then v.known) v u
         → SameCallOf l.own then → then.first ≡ l.own.first → then.chain ≡ l.own.chain → then.at ≡ l.own.at → Answers l.own None calls u
         → (HasOwn u.order → StandsThen v → StandsThen u) → Arrives z walk (finding (started walk) u.known 0 0 false false) v u
     made_so calls then made same same_first same_chain same_at answers stands = let place : ℕ = source_place z v.known walk.at Left in
@@ -341,8 +368,10 @@ turn_nil z walk first v u is l nil = by (changes (reply_at l.own.call None)) ref
                 first_apart = λ lt e. chains.first_apart (subst (λ (f : ℕ). f < 5) first_is lt) (e ∙ ap Word first_is);
               }
               (λ lt. subst (λ (s : WalkSlot). Joined s.named u.known.own.chain 0) (sym (ap (slot u.known) first_is ∙ each l.own.first))
-              (subst (λ (cs : List Rattle.pp_lists.specs.declared.own.Gathered.Gathered). Joined (slot v.known l.own.first).named cs 0) (sym chain_is)
-              (subst (λ (n : ℕ). Joined (slot v.known l.own.first).named l.own.chain n) nil.1 (l.leads (subst (λ (f : ℕ). f < 5) first_is lt)))))
+              (subst (λ (cs : List Rattle.pp_lists.specs.declared.own.Gathered.Gathered). Joined (slot v.known l.own.first).named cs 0)
+              (sym chain_is)
+              (subst (λ (n : ℕ). Joined (slot v.known l.own.first).named l.own.chain n) nil.1
+              (l.leads (subst (λ (f : ℕ). f < 5) first_is lt)))))
               (λ look. first_is ∙ walks_0.looks look)
               (λ j lt x y t. subst IsEmpty (sym (each j)) (empty_0 j lt x (λ e. y (e ∙ sym first_is))
               (λ e. t (e ∙ sym (ap (λ (o : ListOwn). o.at) own ∙ same_at)))))
@@ -364,8 +393,17 @@ turn_nil z walk first v u is l nil = by (changes (reply_at l.own.call None)) ref
         record { call = refl; start = refl; left = refl } refl refl refl record {
           settled = λ _. (
             ap (λ (q : ListPass). q.own.going) (known_after load_step (source_place z v.known walk.at Left) first first []
-                (Rattle.pp_model.specs.MapCalls.placed l.own.call (reply_at l.own.call None) s.at ∷ []) (with_own (resting l.own) v.known) v u s.made),
-            record { at = s.at; since = s.since; within = s.within; right = s.right; least = s.least; calls_are = refl; stands = s.stands },
+                (Rattle.pp_model.specs.MapCalls.placed l.own.call (reply_at l.own.call None) s.at ∷ [])
+                (with_own (resting l.own) v.known) v u s.made),
+            record {
+              at = s.at;
+              since = s.since;
+              within = s.within;
+              right = s.right;
+              least = s.least;
+              calls_are = refl;
+              stands = s.stands;
+            },
           );
           goes_on = λ d. absurd (true≢false (sym d ∙ c));
         } (λ own st. s.stands)

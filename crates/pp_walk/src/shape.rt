@@ -8,7 +8,8 @@ ghost use Rattle.pp_lists.specs.Lists.{ListState, Lists, list_frozen, list_forge
 ghost use Rattle.pp_lists.specs.Lists.{ListTells, ListTellsPass};
 ghost use Rattle.pp_lists.specs.Contents.{ListGathered, list_count, live_of, pair_of};
 ghost use Rattle.pp_lists.proofs.Laws.{list_sided, list_fits, list_heads_open, list_links_open, list_freezes, list_opened, list_alike};
-ghost use Rattle.pp_lists.proofs.Laws.{list_clears, list_invalidates, list_is_chained, list_may_detach, list_kept_detached, list_own_changes};
+ghost use Rattle.pp_lists.proofs.Laws.{list_clears, list_invalidates, list_is_chained, list_may_detach, list_kept_detached};
+ghost use Rattle.pp_lists.proofs.Laws.{list_own_changes};
 ghost use Rattle.pp_lists.proofs.Closing.{list_gathers, list_reached};
 ghost use Rattle.pp_rule.specs.Rule.{Base};
 ghost use Rattle.pp_rule.specs.Views.{halves, value_of};

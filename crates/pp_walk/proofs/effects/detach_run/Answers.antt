@@ -8,11 +8,13 @@ use Rattle.pp_walk.proofs.Effecting.{anchor_readable, may_unlink, detaches_so, m
 use Rattle.pp_walk.proofs.effects.detach_run.Goals as goal
 
 pub try_unlink-requires-clause-readable : goal.try_unlink-requires-clause-readable
-try_unlink-requires-clause-readable c = anchor_readable c.args.pool.now.layout (known c.args.pass.now.seat) c.requires.may.key c.args.anchor
+try_unlink-requires-clause-readable c = anchor_readable c.args.pool.now.layout
+    (known c.args.pass.now.seat) c.requires.may.key c.args.anchor
     c.requires.may.anchored
 
 pub try_unlink-requires-clause-may : goal.try_unlink-requires-clause-may
-try_unlink-requires-clause-may c = may_unlink c.args.pool.now.layout (known c.args.pass.now.seat) c.args.anchor c.args.first c.args.end c.requires.may
+try_unlink-requires-clause-may c = may_unlink c.args.pool.now.layout
+    (known c.args.pass.now.seat) c.args.anchor c.args.first c.args.end c.requires.may
 
 pub returns-in-Detached-clause-detaches : goal.returns-in-Detached-clause-detaches
 returns-in-Detached-clause-detaches c = let pass = c.args.pass.now in

@@ -15,7 +15,8 @@ publish-found-requires-clause-readable c = anchor_readable c.args.pool.now.layou
 
 pub publish-found-requires-clause-may : goal.publish-found-requires-clause-may
 publish-found-requires-clause-may c = let z = c.args.pool.now.layout in let q = known c.args.pass.now.seat in
-    subst (λ (l : Link). MayPublishAt z q c.args.pass.now.purse c.args.number (source_place z q c.args.anchor Left) c.args.pair.0 c.args.pair.1
+    subst (λ (l : Link). MayPublishAt z q c.args.pass.now.purse c.args.number
+    (source_place z q c.args.anchor Left) c.args.pair.0 c.args.pair.1
     (word_of c.args.end) (word_of l)) (sym c.pack-new.ensures)
     (may_publish z q c.args.pass.now.purse c.args.anchor c.args.end c.args.number c.args.pair.0 c.args.pair.1 (omega arith) c.requires.may
     c.requires.filled)
@@ -23,8 +24,10 @@ publish-found-requires-clause-may c = let z = c.args.pool.now.layout in let q = 
 pub returns-clause-published : goal.returns-clause-published
 returns-clause-published c = let z = c.args.pool.now.layout in let q = known c.args.pass.now.seat in
     let place : ℕ = source_place z q c.args.anchor Left in
-    publishes_so z place c.args.number c.args.pair.0 c.args.pair.1 (word_of c.args.end) c.publish-found.result _ (view c.args.pass.now.seat)
+    publishes_so z place c.args.number c.args.pair.0 c.args.pair.1 (word_of c.args.end) c.publish-found.result _
+    (view c.args.pass.now.seat)
     (view c.publish-found.new.pass.seat) c.requires.fits.sizes (anchor_past z q c.args.anchor)
     (ap (λ (e : ℕ). nat_eq c.publish-found.result e) c.word.ensures.word)
-    (subst (λ (l : Link). PublishedAt c.args.number place c.args.pair.0 c.args.pair.1 (word_of c.args.end) (word_of l) c.publish-found.result
+    (subst (λ (l : Link). PublishedAt c.args.number place c.args.pair.0 c.args.pair.1 (word_of c.args.end)
+    (word_of l) c.publish-found.result
     (view c.args.pass.now.seat) (view c.publish-found.new.pass.seat)) c.pack-new.ensures c.publish-found.ensures.published)

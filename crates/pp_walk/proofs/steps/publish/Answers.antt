@@ -13,7 +13,8 @@ use Rattle.pp_walk.proofs.Staying.{keeping_published, same_published, published_
 use Rattle.pp_walk.proofs.steps.publish.Goals as goal
 
 pub exchange_word-requires-clause-allows : goal.exchange_word-requires-clause-allows
-exchange_word-requires-clause-allows c = let z = c.args.pool.now.layout in let me = c.args.pass.now.seat.me in let q = known c.args.pass.now.seat in
+exchange_word-requires-clause-allows c = let z = c.args.pool.now.layout in let me = c.args.pass.now.seat.me in
+    let q = known c.args.pass.now.seat in
     let may = c.requires.may in let place = c.locate-place.result in let k = c.args.pair.0 in let v = c.args.pair.1 in
     let first = c.word.result in let new = c.word-2.result in let p0 = source_place z q c.args.at Left in
     let here : MayPublish z q may.index may.was place k v first new =
@@ -23,8 +24,25 @@ exchange_word-requires-clause-allows c = let z = c.args.pool.now.layout in let m
     λ s h deep at fits. let r = telling 1 _ Lists z 0 _ me place (λ n. either (eqb n first) new n)
     (λ n m'. (m'.1 ≡ []) × Published may.index may.was.number place k v first new n me.0 m'.0)
     (publishes_one _ z 0 _ may.index may.was place k v first new me c.args.pass.now.keeping.lone here)
-    (λ n m t. published_lone may.index may.was.number place k v first new n me.0 m t.0 t.1) s h deep at fits in
-    (r.0, r.1, r.2, r.3, ((r.4.0.0, record { index = may.index; was = may.was; at = here.owned_at; number_is = may.number_is; made = r.4.0.1 }), r.4.1))
+    (λ n m t. published_lone may.index may.was.number place k v first new n me.0 m t.0 t.1) s h deep at fits in (
+      r.0,
+      r.1,
+      r.2,
+      r.3,
+      (
+        (
+          r.4.0.0,
+          record {
+            index = may.index;
+            was = may.was;
+            at = here.owned_at;
+            number_is = may.number_is;
+            made = r.4.0.1;
+          },
+        ),
+        r.4.1,
+      ),
+    )
 
 pub invariant_of-pass : goal.invariant_of-pass
 invariant_of-pass c = let pass = c.args.pass.now in let t = c.exchange_word.ensures.told in let seat = c.exchange_word.new.seat in record {

@@ -8,13 +8,17 @@ use Rattle.pp_walk.proofs.Here.{here_after, read_quiet, read_known}
 use Rattle.pp_walk.proofs.walk.change_here.Goals as goal
 
 pub pass_here-requires-clause-holds : goal.pass_here-requires-clause-holds
-pass_here-requires-clause-holds c = subst (λ (q : ListPass). Holds c.args.pool.now.layout q c.args.walk.call c.args.walk.anchor c.args.word)
-    (sym (read_known c.args.word 0 c.read-key.result _ (view c.args.pass.now.seat) (view c.read-key.new.pass.seat) c.read-key.ensures.read))
+pass_here-requires-clause-holds c = subst (λ (q : ListPass). Holds c.args.pool.now.layout q c.args.walk.call c.args.walk.anchor
+    c.args.word)
+    (sym (read_known c.args.word 0 c.read-key.result _ (view c.args.pass.now.seat)
+    (view c.read-key.new.pass.seat) c.read-key.ensures.read))
     c.requires.holds
 
 pub stop_here-requires-clause-holds : goal.stop_here-requires-clause-holds
-stop_here-requires-clause-holds c = subst (λ (q : ListPass). Holds c.args.pool.now.layout q c.args.walk.call c.args.walk.anchor c.args.word)
-    (sym (read_known c.args.word 0 c.read-key.result _ (view c.args.pass.now.seat) (view c.read-key.new.pass.seat) c.read-key.ensures.read))
+stop_here-requires-clause-holds c = subst (λ (q : ListPass). Holds c.args.pool.now.layout q c.args.walk.call c.args.walk.anchor
+    c.args.word)
+    (sym (read_known c.args.word 0 c.read-key.result _ (view c.args.pass.now.seat)
+    (view c.read-key.new.pass.seat) c.read-key.ensures.read))
     c.requires.holds
 
 pub pass_here-requires-clause-key : goal.pass_here-requires-clause-key

@@ -23,12 +23,15 @@ change_here-requires-clause-holds c = (c.hold_next-second.ensures.held c.if-seco
 
 pub returns-clause-on : goal.returns-clause-on
 returns-clause-on c = let z = c.args.pool.now.layout in let v = view c.args.pass.now.seat in
-    on_held z c.args.walk c.spare-word.result (source_place z v.known c.args.walk.at Left) c.args.first v (view c.hold_next-second.new.pass.seat)
-    (view c.change_here.new.pass.seat) c.change_here.result (c.hold_next-second.ensures.held c.if-second-first.false) c.change_here.ensures.came
+    on_held z c.args.walk c.spare-word.result (source_place z v.known c.args.walk.at Left) c.args.first v
+    (view c.hold_next-second.new.pass.seat)
+    (view c.change_here.new.pass.seat) c.change_here.result (c.hold_next-second.ensures.held c.if-second-first.false)
+    c.change_here.ensures.came
 
 pub returns-then-looks-2-clause-on : goal.returns-then-looks-2-clause-on
 returns-then-looks-2-clause-on c = let z = c.args.pool.now.layout in let v = view c.args.pass.now.seat in
-    on_held z c.args.walk c.spare-word.result (source_place z v.known c.args.walk.at Left) c.args.first v (view c.hold_next-second.new.pass.seat)
+    on_held z c.args.walk c.spare-word.result (source_place z v.known c.args.walk.at Left) c.args.first v
+    (view c.hold_next-second.new.pass.seat)
     (view c.look_here.new.pass.seat) c.look_here.result (c.hold_next-second.ensures.held c.if-second-first.false) c.look_here.ensures.came
 
 pub returns-then-second-first-clause-on : goal.returns-then-second-first-clause-on

@@ -12,7 +12,8 @@ pub returns-then-invalid-clause-came : goal.returns-then-invalid-clause-came
 returns-then-invalid-clause-came c = let bad : invalid_bit c.pass_by-link.result ≡ 1 =
     sym c.unpacked.ensures.invalid ∙ ap bit (sym c.invalid.ensures ∙ c.if-invalid.true) in
     pass_broken c.args.pool.now.layout c.args.walk c.args.word (view c.args.pass.now.seat) c.requires.holds _ c.pass_by-link.result
-    (view c.pass_by-link.new.pass.seat) (view c.rest.new.pass.seat) c.pass_by-link.ensures.passed bad c.rest.ensures.cleared c.rest.ensures.idles
+    (view c.pass_by-link.new.pass.seat) (view c.rest.new.pass.seat) c.pass_by-link.ensures.passed bad c.rest.ensures.cleared
+    c.rest.ensures.idles
 
 pub returns-then-link-ne0-clause-came : goal.returns-then-link-ne0-clause-came
 returns-then-link-ne0-clause-came c = let ok : invalid_bit c.pass_by-link.result ≡ 0 =

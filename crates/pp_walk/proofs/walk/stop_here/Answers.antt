@@ -17,7 +17,8 @@ pub returns-then-invalid-clause-came : goal.returns-then-invalid-clause-came
 returns-then-invalid-clause-came c = let bad : invalid_bit c.stop_at-link.result ≡ 1 =
     sym c.unpacked.ensures.invalid ∙ ap bit (sym c.invalid.ensures ∙ c.if-invalid.true) in
     stop_broken c.args.pool.now.layout c.args.walk c.args.word (view c.args.pass.now.seat) c.requires.holds _ c.stop_at-link.result
-    (view c.stop_at-link.new.pass.seat) (view c.rest.new.pass.seat) c.stop_at-link.ensures.stopped bad c.rest.ensures.cleared c.rest.ensures.idles
+    (view c.stop_at-link.new.pass.seat) (view c.rest.new.pass.seat) c.stop_at-link.ensures.stopped bad c.rest.ensures.cleared
+    c.rest.ensures.idles
 
 pub returns-then-link-ne0-clause-came : goal.returns-then-link-ne0-clause-came
 returns-then-link-ne0-clause-came c = let ok : invalid_bit c.stop_at-link.result ≡ 0 =

@@ -6,7 +6,10 @@ use Rattle.pp_base.proofs.Steady.{named_at}
 use Rattle.pp_lists.specs.Turns.{ListView}
 use Rattle.pp_walk.proofs.Clearing.{ClearsTo, clears_start, clears_kept, clears_empty, clears_one}
 use Rattle.pp_walk.proofs.words.clear_but.Goals as goal
-use Rattle.pp_walk.proofs.words.clear_but.Goals.{then-word-a+then-word-b+then-word-c+then-pass-word-ne0, then-word-a+then-word-b+then-word-c+else-pass-word-ne0, else-word-a, else-word-a-via-then-word-a+then-word-b+else-word-c, else-word-a-via-then-word-a+else-word-b, else-word-a-via-else-word-a}
+use Rattle.pp_walk.proofs.words.clear_but.Goals.{then-word-a+then-word-b+then-word-c+then-pass-word-ne0}
+use Rattle.pp_walk.proofs.words.clear_but.Goals.{then-word-a+then-word-b+then-word-c+else-pass-word-ne0, else-word-a}
+use Rattle.pp_walk.proofs.words.clear_but.Goals.{else-word-a-via-then-word-a+then-word-b+else-word-c}
+use Rattle.pp_walk.proofs.words.clear_but.Goals.{else-word-a-via-then-word-a+else-word-b, else-word-a-via-else-word-a}
 
 pub loop-word-init : goal.loop-word-init
 loop-word-init c = record { to = clears_start c.args.a c.args.b c.args.c c.args.pass.now.seat; purse = refl }
@@ -23,7 +26,8 @@ loop-word-preserved c = let old = c.args.pass.now.seat in let now = c.loop-word.
     let lt : i < 5 = c.loop-word-test.true in
     elim c.if-word-a.branch [
       | then-word-a+then-word-b+then-word-c+then-pass-word-ne0 w ↦ record {
-        to = subst next (sym (ap (λ p. p.seat) w.pass-is)) (clears_one i c.args.a c.args.b c.args.c _ old now.seat _ now.keeping.pass.five lt
+        to = subst next (sym (ap (λ p. p.seat) w.pass-is)) (clears_one i c.args.a c.args.b c.args.c _ old now.seat _ now.keeping.pass.five
+            lt
             w.if-word-a.true w.if-word-b.true w.if-word-c.true w.clear.ensures.same w.clear.ensures.made inv.to);
         purse = ap (λ p. p.purse) w.pass-is ∙ (w.clear.ensures.purse ∙ inv.purse);
       }
@@ -33,11 +37,12 @@ loop-word-preserved c = let old = c.args.pass.now.seat in let now = c.loop-word.
         purse = ap (λ p. p.purse) w.pass-is ∙ inv.purse;
       }
       | else-word-a w ↦ record {
-        to = subst next (sym (ap (λ p. p.seat) w.pass-is)) (clears_kept i c.args.a c.args.b c.args.c old now.seat (elim w.else-word-a.branch [
-          | else-word-a-via-then-word-a+then-word-b+else-word-c x ↦ inr (inr x.if-word-c.false)
-          | else-word-a-via-then-word-a+else-word-b x ↦ inr (inl x.if-word-b.false)
-          | else-word-a-via-else-word-a x ↦ inl x.if-word-a.false
-        ]) inv.to);
+        to = subst next (sym (ap (λ p. p.seat) w.pass-is)) (clears_kept i c.args.a c.args.b c.args.c old now.seat
+            (elim w.else-word-a.branch [
+              | else-word-a-via-then-word-a+then-word-b+else-word-c x ↦ inr (inr x.if-word-c.false)
+              | else-word-a-via-then-word-a+else-word-b x ↦ inr (inl x.if-word-b.false)
+              | else-word-a-via-else-word-a x ↦ inl x.if-word-a.false
+            ]) inv.to);
         purse = ap (λ p. p.purse) w.pass-is ∙ inv.purse;
       }
     ]

@@ -7,7 +7,8 @@ use Rattle.pp_walk.specs.declared.walk.Walk.{Walk}
 use Rattle.pp_walk.specs.declared.walk.Found.{Found}
 use Rattle.pp_walk.specs.declared.walk.Turn.TheVariants.{On, Lost}
 use Rattle.pp_walk.specs.Turns.{TurnsTo, Arrives}
-use Rattle.pp_walk.proofs.Whole.{turn_moved, turn_broken, turn_anchors, turn_gathers, turn_ends, turn_nil, back_invalid, walks_u, gathered_u, leads_u}
+use Rattle.pp_walk.proofs.Whole.{turn_moved, turn_broken, turn_anchors, turn_gathers, turn_ends, turn_nil, back_invalid, walks_u}
+use Rattle.pp_walk.proofs.Whole.{gathered_u, leads_u}
 use Rattle.pp_walk.proofs.Finding.{odd_is}
 use Rattle.pp_walk.proofs.walk.Walk.turn.Goals as goal
 
@@ -33,7 +34,8 @@ come_on-requires-clause-walks c = walks_u c.args.pool.now.layout c.args.self.now
     (λ nil. c.if-number-eq0.false (c.number.ensures ∙ (c.unpacked-link.ensures.number ∙ nil.1)))
 
 pub come_on-requires-clause-gathered : goal.come_on-requires-clause-gathered
-come_on-requires-clause-gathered c = gathered_u c.args.pool.now.layout c.args.self.now c.load_first-first.result (view c.args.pass.now.seat)
+come_on-requires-clause-gathered c = gathered_u c.args.pool.now.layout c.args.self.now c.load_first-first.result
+    (view c.args.pass.now.seat)
     (view c.load_first-first.new.pass.seat) c.requires.walk c.load_first-first.ensures.loads
     (λ nil. c.if-number-eq0.false (c.number.ensures ∙ (c.unpacked-link.ensures.number ∙ nil.1)))
 
@@ -49,21 +51,24 @@ returns-in-Moved-clause-turned c = turn_moved c.args.pool.now.layout c.args.self
     (view c.come_on.new.pass.seat) c.in-Moved.ensures.on
 
 pub returns-in-Broken-clause-turned : goal.returns-in-Broken-clause-turned
-returns-in-Broken-clause-turned c = let z = c.args.pool.now.layout in let v = view c.args.pass.now.seat in let w = view c.come_on.new.pass.seat in
+returns-in-Broken-clause-turned c = let z = c.args.pool.now.layout in let v = view c.args.pass.now.seat in
+    let w = view c.come_on.new.pass.seat in
     subst (λ (x : Walk). TurnsTo z c.args.self.now x v w Lost) (sym c.go_back-in-Broken.ensures)
     (turn_broken z c.args.self.now c.load_first-first.result v (view c.load_first-first.new.pass.seat) c.requires.walk
     c.load_first-first.ensures.loads (λ nil. c.if-number-eq0.false (c.number.ensures ∙ (c.unpacked-link.ensures.number ∙ nil.1))) w
     c.in-Broken.ensures.on)
 
 pub returns-in-Anchors-clause-turned : goal.returns-in-Anchors-clause-turned
-returns-in-Anchors-clause-turned c = let z = c.args.pool.now.layout in let v = view c.args.pass.now.seat in let w = view c.come_on.new.pass.seat in
+returns-in-Anchors-clause-turned c = let z = c.args.pool.now.layout in let v = view c.args.pass.now.seat in
+    let w = view c.come_on.new.pass.seat in
     subst (λ (x : Walk). TurnsTo z c.args.self.now x v w On) (sym c.anchor_at.ensures)
     (turn_anchors z c.args.self.now c.load_first-first.result v (view c.load_first-first.new.pass.seat) c.requires.walk
     c.load_first-first.ensures.loads (λ nil. c.if-number-eq0.false (c.number.ensures ∙ (c.unpacked-link.ensures.number ∙ nil.1)))
     c.in-Anchors.word w c.in-Anchors.ensures.on)
 
 pub returns-in-Gathers-clause-turned : goal.returns-in-Gathers-clause-turned
-returns-in-Gathers-clause-turned c = let z = c.args.pool.now.layout in let v = view c.args.pass.now.seat in let w = view c.come_on.new.pass.seat in
+returns-in-Gathers-clause-turned c = let z = c.args.pool.now.layout in let v = view c.args.pass.now.seat in
+    let w = view c.come_on.new.pass.seat in
     subst (λ (x : Walk). TurnsTo z c.args.self.now x v w On) (sym c.gather_at.ensures)
     (turn_gathers z c.args.self.now c.load_first-first.result v (view c.load_first-first.new.pass.seat) c.requires.walk
     c.load_first-first.ensures.loads (λ nil. c.if-number-eq0.false (c.number.ensures ∙ (c.unpacked-link.ensures.number ∙ nil.1)))
