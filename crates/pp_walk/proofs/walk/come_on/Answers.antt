@@ -4,7 +4,7 @@ use Rattle.pp_base.specs.declared.source.Side.TheVariants.{Left}
 use Rattle.pp_base.specs.Passes.{view}
 use Rattle.pp_base.specs.Sources.{source_place}
 use Rattle.pp_walk.specs.Parts.{word_in}
-use Rattle.pp_walk.proofs.On.{on_held, on_broken}
+use Rattle.pp_walk.proofs.On.{on_held, on_moved, on_broken}
 use Rattle.pp_walk.proofs.walk.come_on.Goals as goal
 
 pub hold_next-second-requires-clause-word : goal.hold_next-second-requires-clause-word
@@ -38,3 +38,8 @@ pub returns-then-second-first-clause-on : goal.returns-then-second-first-clause-
 returns-then-second-first-clause-on c = let z = c.args.pool.now.layout in let v = view c.args.pass.now.seat in
     on_broken z c.args.walk (source_place z v.known c.args.walk.at Left) c.args.first v (view c.hold_next-second.new.pass.seat)
     (view c.rest.new.pass.seat) (c.hold_next-second.ensures.moved c.if-second-first.true) c.rest.ensures.cleared c.rest.ensures.idles
+
+pub returns-then-not-invalid-clause-on : goal.returns-then-not-invalid-clause-on
+returns-then-not-invalid-clause-on c = let z = c.args.pool.now.layout in let v = view c.args.pass.now.seat in
+    on_moved z c.args.walk (source_place z v.known c.args.walk.at Left) c.args.first v (view c.hold_next-second.new.pass.seat)
+    (sym c.looks.ensures ∙ c.if-looks.true) (c.hold_next-second.ensures.moved c.if-second-first.true)
