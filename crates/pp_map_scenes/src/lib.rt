@@ -1,0 +1,7 @@
+//! Worked scenes over maps: their calls turn by turn, and what no single clause says, run once each.
+#![tactic(auto)]
+
+#[cfg(test)]
+mod staging;
+#[cfg(test)]
+mod plain;
