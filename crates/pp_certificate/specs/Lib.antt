@@ -1,0 +1,5 @@
+pub mod Words
+pub mod Cuts
+pub mod Lines
+pub mod Stages
+pub mod Certificates
