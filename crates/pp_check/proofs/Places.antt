@@ -148,10 +148,11 @@ list_rises low [] rising above = tt
 list_rises low (s ∷ mine) rising above =
     ⊎_elim
     (λ changed.
-    subst (RisesFrom low) (sym (change_first s mine changed))
-    (above 0 s refl changed,
-    list_rises (s.place + 1) mine (rising_rest s mine rising)
-    (λ j t at change. omega (arith, (rising 0 (suc j) s t (omega arith) refl at).above change))))
+    subst (RisesFrom low) (sym (change_first s mine changed)) (
+      above 0 s refl changed,
+      list_rises (s.place + 1) mine (rising_rest s mine rising)
+          (λ j t at change. omega (arith, (rising 0 (suc j) s t (omega arith) refl at).above change)),
+    ))
     (λ still.
     subst (RisesFrom low) (sym (still_first s mine still))
     (list_rises low mine (rising_rest s mine rising) (λ j t at change. above (suc j) t at change)))

@@ -62,13 +62,18 @@ module _ (text : List ℕ) (said : CertificateView) (is : IsCertificate text sai
   pub misplaced_verdict : (log : List Change) (caller number : ℕ) (mine : List Placed) → log ≡ said.log → caller < 64
       → slice_get said.lists caller ≡ Some mine → Sound said.log → ((c : ℕ) → c < caller → Stands (log_of text) c (list_of text c))
       → IsMisplacedAt log caller mine number → IsVerdict text (Misplaced caller number)
-  misplaced_verdict log caller number mine read below at sound stand misplaced =
-      (is.good, (subst Sound is.log_is sound, record {
+  misplaced_verdict log caller number mine read below at sound stand misplaced = (
+    is.good,
+    (
+      subst Sound is.log_is sound,
+      record {
         known = below;
         stand = stand;
         at = subst (λ l. IsMisplacedAt l caller (list_of text caller) number) (log_read log read)
             (subst (λ list. IsMisplacedAt log caller list number) (list_is caller mine below at) misplaced);
-      }))
+      },
+    ),
+  )
 
   pub yes_verdict : Sound said.log → AllStand (log_of text) (list_of text) → IsVerdict text Yes
   yes_verdict sound stand = (is.good, (subst Sound is.log_is sound, stand))

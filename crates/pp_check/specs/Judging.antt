@@ -75,7 +75,6 @@ abbrev pub IsTold : {E : Type 0} → (E → Option (List ℕ)) → (E → ℕ) �
 IsTold written faults Writes old new line =
     IsWritten written faults Writes old new line ⊎ IsWrittenPart written faults Writes old new line
 
-
 -- ---- causes
 
 -- the source was read to its end, no read failed, and this is the verdict on its bytes

@@ -13,7 +13,6 @@ mod placing;
 mod telling;
 
 pub use judging::{Judged, judge};
-
 use pp_certificate::{CertificateFault, read_certificate};
 use pp_model::NoMemory;
 use std::alloc::Global;

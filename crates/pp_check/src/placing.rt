@@ -10,12 +10,7 @@ use pp_model::{Change, Placed};
 
 /// The first number at which a caller's list doesn't stand in a sound log, if there is one: that of its first call that isn't in
 /// place, or else one more than its calls are, where a change of the caller is left out.
-pub fn first_misplaced(
-    log: &[Change],
-    index: &[Touch],
-    caller: u32,
-    list: &[Placed],
-) -> Option<u64>
+pub fn first_misplaced(log: &[Change], index: &[Touch], caller: u32, list: &[Placed]) -> Option<u64>
     requires index { IsIndex log.now index.now }
     requires sound { Sound log.now }
     ensures { MatchOption result (Stands log.now caller list.now) (IsMisplacedAt log.now caller list.now) }

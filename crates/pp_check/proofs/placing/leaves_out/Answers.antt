@@ -9,11 +9,11 @@ pub loop-at-preserved : goal.loop-at-preserved
 loop-at-preserved c =
     elim c.else-change-caller.branch [
       | else-change-caller-via-then-change-caller+else-not-has_change w ↦
-        listed_more c.args.log.now c.args.caller c.args.list.now c.loop-at.at _ c.loop-at-test.true c.loop-at.invariant
-        (λ its. w.has_change.ensures.0 w.if-not-has_change.false)
+          listed_more c.args.log.now c.args.caller c.args.list.now c.loop-at.at _ c.loop-at-test.true c.loop-at.invariant
+          (λ its. w.has_change.ensures.0 w.if-not-has_change.false)
       | else-change-caller-via-else-change-caller w ↦
-        listed_more c.args.log.now c.args.caller c.args.list.now c.loop-at.at _ c.loop-at-test.true c.loop-at.invariant
-        (λ its. absurd (w.if-change-caller.false its))
+          listed_more c.args.log.now c.args.caller c.args.list.now c.loop-at.at _ c.loop-at-test.true c.loop-at.invariant
+          (λ its. absurd (w.if-change-caller.false its))
     ]
 
 pub returns-then-not-has_change : goal.returns-then-not-has_change
