@@ -1,10 +1,9 @@
 -- The first field of a line, and the first line of a text, cut off.
-use Rattle.std.proofs.Common.{◌≡◌, ℕ, suc, ◌+◌, ◌-◌, ◌<◌, ◌≤◌, Bool, not, cond, ltb, false, List, [], ◌∷◌, length, take, drop, refl}
-use Rattle.std.proofs.Common.{Option, Some, None, ap, ◌∙◌, sym, ⊎_elim, arith}
-use Rattle.std.specs.Option.{unwrap_or}
-use Rattle.std.specs.List.{slice_split, between, before_first, after_first, position_or_len}
+use Rattle.std.proofs.Common.{◌≡◌, ℕ, ◌+◌, ◌-◌, ◌<◌, ◌≤◌, List, [], ◌∷◌, length, take, drop, refl}
+use Rattle.std.proofs.Common.{ap, ◌∙◌, sym, ⊎_elim, arith}
+use Rattle.std.specs.List.{between, before_first, after_first, position_or_len}
 use Rattle.std.proofs.lemmas.Bool.{cases_lt, lt-ltb, le-ltb}
-use Rattle.std.proofs.lemmas.List.{take_all, drop_all, take-take, drop-drop, drop-take, length-drop}
+use Rattle.std.proofs.lemmas.List.{take_all, take-take, drop-drop, drop-take, length-drop}
 use Rattle.std.proofs.lemmas.List.Edits.{length-between}
 use Rattle.std.proofs.lemmas.List.Splits.{slice_split_first, slice_split_none}
 use Rattle.pp_trace.specs.Lines.{is_line_feed}

@@ -1,8 +1,8 @@
 -- What the lines of a text say, one after the other, and the certificate that grows from them.
-use Rattle.std.proofs.Common.{◌≡◌, ℕ, zero, suc, ◌+◌, ◌<◌, ◌≤◌, cond, ltb, true, false, List, [], ◌∷◌, ◌++◌, length, map, drop, get_or, set, replicate, refl}
+use Rattle.std.proofs.Common.{◌≡◌, ℕ, zero, suc, ◌+◌, ◌<◌, ◌≤◌, cond, true, false, List, [], ◌∷◌, ◌++◌, length, map, drop, get_or, set, replicate, refl}
 use Rattle.std.proofs.Common.{Option, Some, None, ap, ◌∙◌, sym, ⊎_elim, arith, subst, option_and_then}
 use Rattle.std.specs.Prelude.{slice_get}
-use Rattle.std.specs.List.{slice_split, between, cons_option}
+use Rattle.std.specs.List.{between, cons_option}
 use Rattle.std.proofs.lemmas.Bool.{cases_lt, cases_eq, eq-eqb, ne_eqb, lt-ltb, cond_both}
 use Rattle.std.proofs.lemmas.List.{append_assoc, append-nil, length-set, length-replicate, get_or-set_other, get_or_past, get_or_default}
 use Rattle.std.proofs.lemmas.List.{get_or-replicate, length-map, get_or-map, same_lists, drop_all, map-set, length-drop}

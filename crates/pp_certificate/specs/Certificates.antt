@@ -1,5 +1,5 @@
 -- The log and the lists that a text says.
-use Rattle.std.specs.Prelude.{◌≡◌, ℕ, ◌==◌, ◌<◌, ◌≤◌, cond, List, [], ◌∷◌, ◌++◌, length, map, replicate, Option, Some, None, ⊤}
+use Rattle.std.specs.Prelude.{◌≡◌, ℕ, ◌==◌, ◌<◌, cond, List, [], ◌∷◌, ◌++◌, map, replicate, Option, Some, None, ⊤}
 use Rattle.std.specs.Prelude.{slice_set, slice_index_or}
 use Rattle.std.specs.List.{filter_map}
 use Rattle.pp_model.specs.declared.Change.{Change}

@@ -7,9 +7,8 @@ mod reading;
 mod words;
 
 pub use certificate::Certificate;
-pub use reading::{CertificateFault, read_certificate};
-
 use pp_model::{Change, Placed};
+pub use reading::{CertificateFault, read_certificate};
 
 /// What a line of a certificate says.
 #[derive(Clone, Copy, Debug, PartialEq, Eq)]

@@ -1,8 +1,7 @@
 -- Where nothing fails and the source isn't too long, a judgement prints a verdict.
-use Rattle.std.proofs.Common.{◌≡◌, ℕ, ◌≤◌, List, ◌++◌, length, refl, ap, inl, inr, arith, length-append}
+use Rattle.std.proofs.Common.{◌≡◌, ℕ, ◌≤◌, List, length, refl, ap, inl, inr, arith, length-append}
 use Rattle.std.specs.Prelude.{Option, Some, None}
 use Rattle.std.specs.Io.KnownBytes.{Consumes}
-use Rattle.pp_check.specs.declared.Verdict.{Verdict}
 use Rattle.pp_check.specs.declared.Verdict.TheVariants as verdict
 use Rattle.pp_check.specs.declared.judging.Way.{Way}
 use Rattle.pp_check.specs.declared.judging.Way.TheVariants.{Judged, Unread, TooLong, Unwritten, NoMemory}

@@ -1,5 +1,5 @@
 -- Each text has a verdict: whether a log is sound and a list stands in it can be decided.
-use Rattle.std.proofs.Common.{◌≡◌, ℕ, zero, suc, ◌+◌, ◌-◌, ◌<◌, ◌≤◌, ◌⊎◌, inl, inr, Bool, true, false, List, [], ◌∷◌, length, get_or}
+use Rattle.std.proofs.Common.{◌≡◌, ℕ, zero, suc, ◌+◌, ◌-◌, ◌<◌, ◌≤◌, ◌⊎◌, inl, inr, Bool, true, false, List, [], ◌∷◌, length}
 use Rattle.std.proofs.Common.{Option, Some, None, refl, sym, ap, ap₂, ◌∙◌, ⊎_elim, arith, subst}
 use Rattle.std.specs.Prelude.{slice_get}
 use Rattle.std.proofs.lemmas.Bool.{true≢false, cases_lt, cases_eq, cases_Bool}
@@ -16,8 +16,8 @@ use Rattle.pp_certificate.specs.Stages.{first_bad}
 use Rattle.pp_certificate.specs.Certificates.{log_of, list_of}
 use Rattle.pp_check.specs.declared.Verdict.{Verdict}
 use Rattle.pp_check.specs.declared.Verdict.TheVariants.{Yes, BadLine, Unsound, Misplaced}
-use Rattle.pp_check.specs.Histories.{SoundTo, IsUnsound, IsInPlace, InPlaceTo, HasNoChangeAt, LeavesOut, IsAmiss, IsShort, IsMisplacedAt}
-use Rattle.pp_check.specs.Histories.{IsMisplaced, AllStand}
+use Rattle.pp_check.specs.Histories.{SoundTo, IsUnsound, IsInPlace, InPlaceTo, HasNoChangeAt, LeavesOut, IsAmiss, IsMisplacedAt}
+use Rattle.pp_check.specs.Histories.{IsMisplaced}
 use Rattle.pp_check.specs.Verdicts.{IsVerdict, EachHasVerdict}
 use Rattle.pp_check.proofs.Places.{HasListed}
 use Rattle.pp_check.proofs.Standing.{stands_from}

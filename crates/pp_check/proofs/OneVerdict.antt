@@ -1,5 +1,5 @@
 -- No text has two verdicts.
-use Rattle.std.proofs.Common.{◌≡◌, ℕ, ◌+◌, ◌<◌, ◌⊎◌, inl, inr, true, false, List, length, Some, None, refl, sym, ap, ◌∙◌, ⊎_elim, arith, subst}
+use Rattle.std.proofs.Common.{◌≡◌, ℕ, ◌<◌, inl, inr, List, Some, None, refl, sym, ap, ◌∙◌, ⊎_elim, arith, subst}
 use Rattle.std.proofs.lemmas.Bool.{true≢false, cases_lt, cases_eq}
 use Rattle.std.proofs.lemmas.Option.{slice_get_within}
 use Rattle.pp_model.specs.declared.Change.{Change}
@@ -7,10 +7,9 @@ use Rattle.pp_model.specs.declared.Placed.{Placed}
 use Rattle.pp_model.specs.History.{Sound}
 use Rattle.pp_certificate.specs.Stages.{first_bad}
 use Rattle.pp_certificate.specs.Certificates.{log_of, list_of}
-use Rattle.pp_check.specs.declared.Verdict.{Verdict}
 use Rattle.pp_check.specs.declared.Verdict.TheVariants.{Yes, BadLine, Unsound, Misplaced}
 use Rattle.pp_check.specs.Histories.{IsUnsound, IsAmiss, IsShort, IsMisplacedAt, IsMisplaced, AllStand}
-use Rattle.pp_check.specs.Verdicts.{IsVerdict, VerdictsAreOne}
+use Rattle.pp_check.specs.Verdicts.{VerdictsAreOne}
 use Rattle.pp_check.proofs.Standing.{stands_not}
 
 -- one of two numbers is the lower, or they are equal

@@ -1,15 +1,15 @@
 -- A caller's list stands in a log exactly where each call is in place and no change is left out.
-use Rattle.std.proofs.Common.{◌≡◌, ℕ, zero, suc, ◌+◌, ◌-◌, ◌<◌, ◌≤◌, ◌⊎◌, inl, inr, Bool, true, false, List, [], ◌∷◌, length, get_or}
+use Rattle.std.proofs.Common.{◌≡◌, ℕ, zero, suc, ◌+◌, ◌-◌, ◌<◌, ◌≤◌, inl, inr, true, List, length, get_or}
 use Rattle.std.proofs.Common.{Some, refl, sym, ap, ◌∙◌, ⊎_elim, arith, subst}
 use Rattle.std.specs.Prelude.{slice_get}
-use Rattle.std.proofs.lemmas.Bool.{true≢false, cases_Bool, cases_lt}
+use Rattle.std.proofs.lemmas.Bool.{cases_lt}
 use Rattle.std.proofs.lemmas.Option.{slice_get-get_or, slice_get_within, get_or_from_slice_get}
 use Rattle.pp_model.specs.declared.Change.{Change}
 use Rattle.pp_model.specs.declared.Placed.{Placed}
 use Rattle.pp_model.specs.Calls.{changes}
 use Rattle.pp_model.specs.History.{change_of, FitsAsChange, FitsBy, Fits, Follows, Stands, places_in, places_of}
-use Rattle.pp_check.specs.Histories.{IsInPlace, InPlaceTo, IsChangeAt, HasNoChangeAt, LeavesOut, IsAmiss, IsShort, IsMisplacedAt}
-use Rattle.pp_check.proofs.Places.{IsAmong, same_rising, places_rise, place_in, HasChange, place_out, Rising, changes_rise, listed_in, HasListed, listed_out}
+use Rattle.pp_check.specs.Histories.{IsInPlace, InPlaceTo, IsChangeAt, LeavesOut, IsMisplacedAt}
+use Rattle.pp_check.proofs.Places.{IsAmong, same_rising, places_rise, place_in, place_out, Rising, changes_rise, listed_in, HasListed, listed_out}
 
 follows_trans : (s t u : Placed) → Follows s t → Follows t u → Follows s u
 follows_trans s t u a b = record { rises = omega (arith, a.rises, b.rises); above = λ change. omega (arith, a.rises, b.above change) }

@@ -1,6 +1,6 @@
 -- A key's value in the map after some changes of a log: what the last change on it left.
-use Rattle.std.proofs.Common.{◌≡◌, ℕ, zero, suc, ◌+◌, ◌<◌, ◌≤◌, ◌-◌, Bool, true, false, cond, nat_eq, List, [], ◌∷◌, ◌++◌, length, take, get_or}
-use Rattle.std.proofs.Common.{Option, Some, None, refl, sym, ap, ◌∙◌, ⊎_elim, arith, subst}
+use Rattle.std.proofs.Common.{◌≡◌, ℕ, zero, suc, ◌+◌, ◌<◌, ◌≤◌, ◌-◌, Bool, true, false, cond, nat_eq, List, [], ◌∷◌, length, take, get_or}
+use Rattle.std.proofs.Common.{Option, Some, None, refl, sym, ap, ◌∙◌, arith}
 use Rattle.std.specs.Prelude.{slice_get}
 use Rattle.std.proofs.lemmas.Bool.{true≢false}
 use Rattle.std.proofs.lemmas.List.{take_more}
@@ -10,8 +10,7 @@ use Rattle.pp_model.specs.declared.Call.TheVariants.{Get, Insert, Remove, Cut}
 use Rattle.pp_model.specs.declared.Reply.TheVariants.{Took, Other}
 use Rattle.pp_model.specs.declared.Change.{Change}
 use Rattle.pp_model.specs.declared.Pair.{Pair}
-use Rattle.pp_model.specs.Lists.{RisesFrom}
-use Rattle.pp_model.specs.FiniteMap.{find, put, drop_key, keys_of, KeysRise}
+use Rattle.pp_model.specs.FiniteMap.{find, drop_key, KeysRise}
 use Rattle.pp_model.specs.Calls.{key_of, reply, reply_at, map_after, map_after_at, changes}
 use Rattle.pp_model.specs.History.{run_from, after}
 use Rattle.pp_model.proofs.Maps.{RisesFrom-put, RisesFrom-drop_key}

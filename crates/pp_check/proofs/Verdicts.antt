@@ -1,13 +1,13 @@
 -- Verdicts on a certificate that was read.
-use Rattle.std.proofs.Common.{◌≡◌, ℕ, zero, suc, ◌+◌, ◌<◌, ◌≤◌, List, [], ◌∷◌, length, map, Some, refl, sym, ap, ◌∙◌, ⊎_elim, arith, subst}
+use Rattle.std.proofs.Common.{◌≡◌, ℕ, zero, suc, ◌+◌, ◌<◌, ◌≤◌, List, map, Some, ap, ◌∙◌, ⊎_elim, arith, subst}
 use Rattle.std.proofs.lemmas.Bool.{cases_lt}
 use Rattle.std.specs.Prelude.{slice_get, option_map}
 use Rattle.std.proofs.lemmas.Option.{slice_get-map}
 use Rattle.pp_model.specs.declared.Change.{Change}
 use Rattle.pp_model.specs.declared.Placed.{Placed}
-use Rattle.pp_model.specs.Lists.{upto, AtEach, RisesFrom}
+use Rattle.pp_model.specs.Lists.{upto, RisesFrom}
 use Rattle.pp_model.specs.History.{finite_map, Sound, Stands}
-use Rattle.pp_model.specs.Linearization.{CallerList, callers_of, HasList, IsHistory}
+use Rattle.pp_model.specs.Linearization.{CallerList, callers_of}
 use Rattle.pp_model.proofs.CallersOrder.{is_history}
 use Rattle.pp_certificate.specs.Certificates.{CertificateView, IsCertificate, log_of, list_of}
 use Rattle.pp_check.specs.declared.Verdict.{Verdict}

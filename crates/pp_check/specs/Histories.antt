@@ -3,7 +3,7 @@ use Rattle.std.specs.Prelude.{◌≡◌, ℕ, ◌+◌, ◌<◌, ◌⊎◌, true,
 use Rattle.pp_model.specs.declared.Change.{Change}
 use Rattle.pp_model.specs.declared.Placed.{Placed}
 use Rattle.pp_model.specs.Calls.{reply, changes}
-use Rattle.pp_model.specs.History.{after, Sound, Fits, Follows, Stands}
+use Rattle.pp_model.specs.History.{after, Fits, Follows, Stands}
 
 -- each of the first p changes of a log changes the map before it
 abbrev pub SoundTo : List Change → ℕ → Type 0

@@ -1,4 +1,3 @@
-use Rattle.std.proofs.Common.{arith}
 use Rattle.std.proofs.lemmas.List.{take_rest}
 use Rattle.pp_certificate.proofs.Cutting.{last_part, line_to}
 use Rattle.pp_certificate.proofs.reading.line_end.Goals as goal

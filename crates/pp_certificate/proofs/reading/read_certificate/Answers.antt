@@ -1,7 +1,7 @@
 use Rattle.std.proofs.Common.{arith, refl, sym, ◌∙◌}
 use Rattle.std.specs.List.{between}
 use Rattle.pp_certificate.proofs.Callers.{entry_fits}
-use Rattle.pp_certificate.proofs.Growing.{read_none, reads_on, read_all, goes_on, stops_unread, stops_there, stops_last, early, unended}
+use Rattle.pp_certificate.proofs.Growing.{read_none, reads_on, read_all, goes_on, stops_unread, stops_there}
 use Rattle.pp_certificate.proofs.reading.read_certificate.Goals as goal
 
 pub loop-feed-init : goal.loop-feed-init

@@ -1,5 +1,5 @@
 use Rattle.std.proofs.Common.{arith}
-use Rattle.pp_certificate.proofs.Cutting.{word_at, no_words}
+use Rattle.pp_certificate.proofs.Cutting.{word_at}
 use Rattle.pp_certificate.proofs.words.next_word.Goals as goal
 
 pub returns : goal.returns

@@ -1,6 +1,4 @@
-use Rattle.std.proofs.Common.{arith, sym, ◌∙◌}
-use Rattle.std.proofs.lemmas.Bool.{true≢false}
-use Rattle.std.proofs.lemmas.Option.{slice_get_within}
+use Rattle.std.proofs.Common.{arith}
 use Rattle.pp_check.proofs.Standing.{in_place_more, in_place_first}
 use Rattle.pp_check.proofs.placing.first_amiss.Goals as goal
 use Rattle.pp_check.proofs.placing.first_amiss.Goals.{else-position-gt0-via-then-position-gt0+else-not-follows, else-position-gt0-via-else-position-gt0}

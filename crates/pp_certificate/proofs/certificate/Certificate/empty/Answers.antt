@@ -1,4 +1,4 @@
-use Rattle.std.proofs.Common.{◌≡◌, [], List, length, ap, ◌∙◌, sym, replicate, arith}
+use Rattle.std.proofs.Common.{◌≡◌, [], List, length, ap, ◌∙◌, sym, arith}
 use Rattle.std.proofs.lemmas.List.{length-map, length-replicate}
 use Rattle.pp_model.specs.declared.Placed.{Placed}
 use Rattle.pp_certificate.proofs.certificate.Certificate.empty.Goals as goal
