@@ -126,7 +126,8 @@ read_change text left said change fits read = record {
   size = read.size;
   log = read.log ∙ sym (append_assoc said.log (change ∷ []) (log_in left));
   each = read.each;
-  callers = λ p c e. ⊎_elim (λ old. read.callers p c old) (λ new. let is : change ≡ c = sym new.1 in subst (λ (x : Change). x.caller < 64) is fits)
+  callers = λ p c e. ⊎_elim (λ old. read.callers p c old)
+      (λ new. let is : change ≡ c = sym new.1 in subst (λ (x : Change). x.caller < 64) is fits)
       (slice_get_push said.log change p c e);
 }
 

@@ -3,7 +3,8 @@
 ghost use Rattle.std.specs.Prelude.{◌≡◌, ◌+◌, ◌≤◌, ◌<◌, [], length, IfSome, option_map};
 ghost use Rattle.std.specs.List.{between};
 ghost use Rattle.pp_certificate.specs.Words.{words_left};
-ghost use Rattle.pp_certificate.specs.Lines.{entry_of, opening_of, change_of_words, said_of_words, ending_of, called_at, call_of, word_of, reply_of, bare_reply, valued_reply, line_entry};
+ghost use Rattle.pp_certificate.specs.Lines.{opening_of, change_of_words, said_of_words, ending_of, line_entry};
+ghost use Rattle.pp_certificate.specs.Lines.{called_at, call_of, word_of, reply_of, bare_reply, valued_reply};
 ghost use Rattle.pp_certificate.specs.Stages.{next_stage, has_ended};
 
 use crate::Entry;

@@ -9,7 +9,8 @@ use Rattle.pp_model.specs.declared.Placed.{Placed}
 use Rattle.pp_model.specs.Calls.{changes}
 use Rattle.pp_model.specs.History.{change_of, FitsAsChange, FitsBy, Fits, Follows, Stands, places_in, places_of}
 use Rattle.pp_check.specs.Histories.{IsInPlace, InPlaceTo, IsChangeAt, LeavesOut, IsMisplacedAt}
-use Rattle.pp_check.proofs.Places.{IsAmong, same_rising, places_rise, place_in, place_out, Rising, changes_rise, listed_in, HasListed, listed_out}
+use Rattle.pp_check.proofs.Places.{IsAmong, same_rising, places_rise, place_in, place_out}
+use Rattle.pp_check.proofs.Places.{Rising, changes_rise, listed_in, HasListed, listed_out}
 
 follows_trans : (s t u : Placed) → Follows s t → Follows t u → Follows s u
 follows_trans s t u a b = record { rises = omega (arith, a.rises, b.rises); above = λ change. omega (arith, a.rises, b.above change) }
@@ -59,7 +60,8 @@ module _ (log : List Change) (caller : ℕ) (mine : List Placed) where
         (λ n among.
         let logged = place_out 0 caller log n among in
         let listed = has logged.before logged.change logged.logged logged.its in
-        subst (λ k. IsAmong k (places_of mine)) (omega (arith, listed.is, logged.place)) (listed_in mine listed.position listed.call listed.listed listed.changed))
+        subst (λ k. IsAmong k (places_of mine)) (omega (arith, listed.is, logged.place))
+        (listed_in mine listed.position listed.call listed.listed listed.changed))
         (listed_logged all);
   }
 
@@ -110,7 +112,8 @@ module _ (log : List Change) (caller : ℕ) (mine : List Placed) where
       let same : p ≡ i = omega arith in
       let is : get_or log i x ≡ c = get_or_from_slice_get log i c x (ap (slice_get log) (sym same) ∙ at) in
       let mine_here : IsChangeAt mine (get_or log i x).number (i + 1) = here (ap (λ (y : Change). y.caller) is ∙ its) in
-      let there : IsChangeAt mine (get_or log i x).number (p + 1) = subst (λ k. IsChangeAt mine (get_or log i x).number (k + 1)) (sym same) mine_here in
+      let there : IsChangeAt mine (get_or log i x).number (p + 1) =
+      subst (λ k. IsChangeAt mine (get_or log i x).number (k + 1)) (sym same) mine_here in
       subst (λ (y : Change). IsChangeAt mine y.number (p + 1)) is there)
       (cases_lt p i)
 

@@ -12,7 +12,8 @@ returns-in-Ok-write_text g c = (
     within = c.in-Ok.ensures.most;
     right = subst (λ (t : List ℕ). IsVerdict t c.in-Ok-check.verdict) c.deref.ensures.value c.in-Ok-check.ensures.verdict;
   },
-  subst (λ (t : List ℕ). IsWritten g.K.Sink.written g.K.Sink.faults g.K.Sink.Writes c.args.sink.now c.write_text.new.sink t) (c.as_bytes.ensures.value ∙ c.as_str.ensures.value ∙ c.verdict_text.ensures)
+  subst (λ (t : List ℕ). IsWritten g.K.Sink.written g.K.Sink.faults g.K.Sink.Writes c.args.sink.now c.write_text.new.sink t)
+      (c.as_bytes.ensures.value ∙ c.as_str.ensures.value ∙ c.verdict_text.ensures)
       c.in-Ok-write_text.ensures,
 )
 
@@ -26,6 +27,7 @@ returns-in-Ok-check g c = record {
     within = c.in-Ok.ensures.most;
     right = subst (λ (t : List ℕ). IsVerdict t c.in-Ok-check.verdict) c.deref.ensures.value c.in-Ok-check.ensures.verdict;
   };
-  cut = subst (λ (t : List ℕ). IsWrittenPart g.K.Sink.written g.K.Sink.faults g.K.Sink.Writes c.args.sink.now c.write_text.new.sink t) (c.as_bytes.ensures.value ∙ c.as_str.ensures.value ∙ c.verdict_text.ensures)
+  cut = subst (λ (t : List ℕ). IsWrittenPart g.K.Sink.written g.K.Sink.faults g.K.Sink.Writes c.args.sink.now c.write_text.new.sink t)
+      (c.as_bytes.ensures.value ∙ c.as_str.ensures.value ∙ c.verdict_text.ensures)
       c.in-Err-write_text.ensures;
 }

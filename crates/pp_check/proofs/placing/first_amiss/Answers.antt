@@ -1,7 +1,8 @@
 use Rattle.std.proofs.Common.{arith}
 use Rattle.pp_check.proofs.Standing.{in_place_more, in_place_first}
 use Rattle.pp_check.proofs.placing.first_amiss.Goals as goal
-use Rattle.pp_check.proofs.placing.first_amiss.Goals.{else-position-gt0-via-then-position-gt0+else-not-follows, else-position-gt0-via-else-position-gt0}
+use Rattle.pp_check.proofs.placing.first_amiss.Goals.{else-position-gt0-via-then-position-gt0+else-not-follows}
+use Rattle.pp_check.proofs.placing.first_amiss.Goals.{else-position-gt0-via-else-position-gt0}
 
 pub loop-position-preserved : goal.loop-position-preserved
 loop-position-preserved c =

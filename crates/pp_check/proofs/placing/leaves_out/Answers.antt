@@ -3,7 +3,8 @@ use Rattle.std.proofs.lemmas.Bool.{true≢false}
 use Rattle.std.proofs.lemmas.Option.{slice_get_within, slice_get-get_or}
 use Rattle.pp_check.proofs.Standing.{left_out, listed_more}
 use Rattle.pp_check.proofs.placing.leaves_out.Goals as goal
-use Rattle.pp_check.proofs.placing.leaves_out.Goals.{else-change-caller-via-then-change-caller+else-not-has_change, else-change-caller-via-else-change-caller}
+use Rattle.pp_check.proofs.placing.leaves_out.Goals.{else-change-caller-via-then-change-caller+else-not-has_change}
+use Rattle.pp_check.proofs.placing.leaves_out.Goals.{else-change-caller-via-else-change-caller}
 
 pub loop-at-preserved : goal.loop-at-preserved
 loop-at-preserved c =
