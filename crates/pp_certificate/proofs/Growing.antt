@@ -35,7 +35,7 @@ pub record HasReadTo (text : List ℕ) (parts : List (List ℕ)) (said : Certifi
 
 -- ---- the first bad line
 
-first_bad_from-cons : (n : ℕ) (stage : Stage) (line : List ℕ) (parts : List (List ℕ)) → 0 < length parts
+pub first_bad_from-cons : (n : ℕ) (stage : Stage) (line : List ℕ) (parts : List (List ℕ)) → 0 < length parts
     → first_bad_from n stage (line ∷ parts) ≡ unless_after n (stage_after stage line) (λ later. first_bad_from (n + 1) later parts)
 first_bad_from-cons n stage line [] some = absurd (omega arith)
 first_bad_from-cons n stage line (next ∷ more) some = refl
@@ -178,11 +178,11 @@ reads_on text from feed entry said is says read =
     }) in
     record { size = after.size; log = after.log; each = after.each; callers = after.callers }
 
-length-upto : (low n : ℕ) → length (upto low n) ≡ n
+pub length-upto : (low n : ℕ) → length (upto low n) ≡ n
 length-upto low zero = refl
 length-upto low (suc n) = ap suc (length-upto (low + 1) n)
 
-get_or-upto : (low n k d : ℕ) → k < n → get_or (upto low n) k d ≡ low + k
+pub get_or-upto : (low n k d : ℕ) → k < n → get_or (upto low n) k d ≡ low + k
 get_or-upto low zero k d within = absurd (omega arith)
 get_or-upto low (suc n) zero d within = omega arith
 get_or-upto low (suc n) (suc k) d within = get_or-upto (low + 1) n k d (omega arith) ∙ omega arith

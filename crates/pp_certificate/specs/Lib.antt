@@ -3,3 +3,4 @@ pub mod Cuts
 pub mod Lines
 pub mod Stages
 pub mod Certificates
+pub mod Printed

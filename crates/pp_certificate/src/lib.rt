@@ -3,6 +3,7 @@
 
 mod certificate;
 mod entries;
+pub mod laws;
 mod reading;
 mod words;
 
