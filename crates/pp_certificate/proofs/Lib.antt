@@ -1,0 +1,4 @@
+pub mod Cutting
+pub mod Callers
+pub mod Growing
+pub mod Printing

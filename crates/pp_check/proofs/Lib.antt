@@ -1,0 +1,9 @@
+pub mod Values
+pub mod Indexing
+pub mod Writings
+pub mod Places
+pub mod Standing
+pub mod Verdicts
+pub mod OneVerdict
+pub mod EachVerdict
+pub mod Completeness

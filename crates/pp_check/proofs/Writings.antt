@@ -1,0 +1,37 @@
+-- A text that is written piece by piece.
+use Rattle.std.proofs.Common.{◌≡◌, ℕ, ◌-◌, ◌≤◌, List, [], ◌++◌, length, take, drop, refl, sym, ap, ◌∙◌, subst, arith, append_assoc, append-nil}
+use Rattle.std.specs.Prelude.{Option, Result, Ok}
+use Rattle.std.proofs.lemmas.List.{take-append-drop, take_all, length-drop}
+use Rattle.std.specs.Io.KnownBytes.{Appends}
+use Rattle.std.proofs.KnownBytes.{Appends-nil, Appends-trans}
+use Rattle.pp_outside.specs.declared.Failed.{Failed}
+use Rattle.pp_outside.specs.Outside.{WroteOn, no_write, next_write, OffersAll}
+
+module _ {E : Type 0} (written : E → Option (List ℕ)) (faults : E → ℕ) (Writes : E → E → List ℕ → Result ℕ Failed → Type 0) where
+  -- the front of the text was taken, and this is the rest; no write failed
+  pub record IsSent (old new : E) (rest text : List ℕ) : Type 0 where
+    pub sent : List ℕ
+    pub is : sent ++ rest ≡ text
+    pub written_is : Appends (written old) (written new) sent
+    pub kept : faults new ≡ faults old
+    pub writes : WroteOn Writes OffersAll old text new rest
+
+  pub none_sent : (s : E) (text : List ℕ) → IsSent s s text text
+  none_sent s text = record { sent = []; is = refl; written_is = Appends-nil (written s); kept = refl; writes = no_write }
+
+  pub more_sent : (s t u : E) (rest text : List ℕ) (count : ℕ) → count ≤ length rest → IsSent s t rest text
+      → Appends (written t) (written u) (take count rest) → faults u ≡ faults t → Writes t u rest (Ok count)
+      → IsSent s u (take (length rest - count) (drop count rest)) text
+  more_sent s t u rest text count fits so_far took kept made =
+      let all : take (length rest - count) (drop count rest) ≡ drop count rest =
+      take_all (length rest - count) (drop count rest) (omega (arith, length-drop count rest)) in
+      record {
+        sent = so_far.sent ++ take count rest;
+        is = ap (λ l. (so_far.sent ++ take count rest) ++ l) all
+            ∙ (append_assoc so_far.sent (take count rest) (drop count rest)
+            ∙ (ap (λ l. so_far.sent ++ l) (take-append-drop count rest) ∙ so_far.is));
+        written_is = Appends-trans (written s) (written t) (written u) so_far.sent (take count rest) so_far.written_is took;
+        kept = kept ∙ so_far.kept;
+        writes = subst (λ (left : List ℕ). WroteOn Writes OffersAll s text u left) (sym all)
+            (next_write t u rest rest [] count so_far.writes (sym (append-nil rest)) refl fits made);
+      }
