@@ -1,0 +1,5 @@
+pub mod Walked
+pub mod Causes
+pub mod Turning
+pub mod Exchanging
+pub mod Filling
