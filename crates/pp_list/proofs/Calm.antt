@@ -1,0 +1,114 @@
+-- Steps that count for nothing in a call.
+use Rattle.std.proofs.Common.{◌≡◌, ℕ, ◌+◌, Bool, true, false, List, [], ◌∷◌, ◌++◌, map, length, refl, sym, ap, ◌∙◌, subst, append_assoc, append-nil, arith}
+use Rattle.std.specs.Prelude.{◌||◌, ◌&&◌, nat_eq, not}
+use Rattle.pp_link.specs.declared.layout.Sizes.{Sizes}
+use Rattle.pp_model.specs.declared.Call.{Call}
+use Rattle.pp_model.specs.declared.steps.Step.{Step}
+use Rattle.pp_rule.specs.Causes.{memory_after}
+use Rattle.pp_rule.specs.Lists.{IsIn}
+use Rattle.pp_base.specs.Named.{NamedStep, name_of, Made}
+use Rattle.pp_calls.specs.PoolViews.{is_writing}
+use Rattle.pp_calls.proofs.Growing.{stepped_both, stepped_made}
+use Rattle.pp_calls.proofs.Remaining.{stands_made}
+use Rattle.pp_shelf.specs.Runs.{map_sizes, steps_made}
+use Rattle.pp_lists.specs.Turns.{ListView}
+use Rattle.pp_lists.specs.Losses.{is_effect, has_flag, list_reader, finds as finds_in}
+use Rattle.pp_turns.specs.Tallies.{Tally, losing, effected}
+use Rattle.pp_turns.specs.Turns.{Ran}
+use Rattle.pp_turns.specs.Causes.{Aside}
+use Rattle.pp_turns.proofs.Aside.{counts_losing, counts_effected}
+use Rattle.pp_turns.proofs.Placing.{unplaced_made, unplaced_on}
+use Rattle.pp_turns.proofs.Stretches.{ran_both, ran_as, own_before, stretch_both, steps_named}
+use Rattle.pp_walk.specs.Trod.{Idles, Quiet, WriteNoLink, StrikeNone, FindSo}
+use Rattle.pp_list.specs.Answers.{Calm}
+use Rattle.pp_list.proofs.Reading.{list_over, named_losing, named_later}
+
+neither : (a b : Bool) → a || b ≡ false → (a ≡ false) × (b ≡ false)
+neither true b e = absurd (true_false e)
+  where
+    true_false : true ≡ false → ⊥
+    true_false e = cc
+neither false b e = (refl, e)
+
+kind_effect : (k place word : ℕ) → is_writing k ≡ false → is_effect (record { kind = k; place = place; word = word }) ≡ false
+kind_effect k place word none =
+    let rest : ℕ → Bool = λ j. nat_eq k j in
+    let a = neither (rest 1) (rest 10 || (rest 11 || (rest 12 || (rest 17 || (rest 18 || (rest 20 || (rest 21 || (rest 22 || rest 23)))))))) none in
+    let b = neither (rest 10) (rest 11 || (rest 12 || (rest 17 || (rest 18 || (rest 20 || (rest 21 || (rest 22 || rest 23))))))) a.1 in
+    let c = neither (rest 11) (rest 12 || (rest 17 || (rest 18 || (rest 20 || (rest 21 || (rest 22 || rest 23)))))) b.1 in
+    let d = neither (rest 12) (rest 17 || (rest 18 || (rest 20 || (rest 21 || (rest 22 || rest 23))))) c.1 in
+    let e = neither (rest 17) (rest 18 || (rest 20 || (rest 21 || (rest 22 || rest 23)))) d.1 in
+    let f = neither (rest 18) (rest 20 || (rest 21 || (rest 22 || rest 23))) e.1 in
+    ap (λ (x : Bool). x || (nat_eq k 18 && not (has_flag word))) e.0 ∙ ap (λ (x : Bool). x && not (has_flag word)) f.0
+
+-- what writes no link takes no effect
+pub strikes_none : (steps : List NamedStep) → WriteNoLink steps → StrikeNone steps
+strikes_none steps writes s i = kind_effect s.kind s.place s.word (writes s i)
+
+module _ (z : Sizes) (call : Call) (lost : ℕ) (names : List NamedStep) (v w : ListView) (made : Made names v w)
+    (finds : (earlier : List NamedStep) → finds_in (map_sizes z) earlier names ≡ lost) where
+  -- steps by their names, of which so many lose a turn, before the call took effect
+  pub named_ran : StrikeNone names → (m : List NamedStep) (n : ℕ)
+      → (m' : List NamedStep) × Ran list_reader (map_sizes z) call (losing m n) (losing m' (n + lost)) v w
+  named_ran early m n = (
+    memory_after list_reader (map_sizes z) call m (steps_made v w),
+    record {
+      stepped = stepped_made names v w made;
+      read = named_losing (map_sizes z) call names lost finds early m n (steps_made v w) (steps_named names v w made);
+      stands = λ own stands. stands_made names v w made own stands;
+    },
+  )
+
+  -- and after it
+  pub named_after : (m : List NamedStep) (n few : ℕ) (later : List Step) → (m' : List NamedStep)
+      × Ran list_reader (map_sizes z) call (effected m n few later) (effected m' (n + lost) few (later ++ steps_made v w)) v w
+  named_after m n few later = (
+    memory_after list_reader (map_sizes z) call m (steps_made v w),
+    record {
+      stepped = stepped_made names v w made;
+      read = named_later (map_sizes z) call names lost finds m n few later (steps_made v w) (steps_named names v w made);
+      stands = λ own stands. stands_made names v w made own stands;
+    },
+  )
+
+module _ (z : Sizes) (call : Call) where
+  pub calm_quiet : (v w : ListView) → Idles v w → Calm z call v w
+  calm_quiet v w q = let early = strikes_none q.steps q.writes in record {
+    stepped = stepped_made q.steps v w q.did;
+    stands = λ own stands. stands_made q.steps v w q.did own stands;
+    unplaced = unplaced_made q.steps v w q.did;
+    losing_so = λ m n. let r = named_ran z call 0 q.steps v w q.did (q.loses (map_sizes z)) early m n in let e : n + 0 ≡ n = omega arith in
+        (r.0, ran_as list_reader (map_sizes z) call (losing m n) _ _ v w (ap (losing r.0) e) r.1);
+    effected_so = λ m n few later. let r = named_after z call 0 q.steps v w q.did (q.loses (map_sizes z)) m n few later in
+        let e : n + 0 ≡ n = omega arith in (
+          r.0,
+          ran_as list_reader (map_sizes z) call (effected m n few later) _ _ v w
+              (ap (λ (k : ℕ). effected r.0 k few (later ++ steps_made v w)) e) r.1,
+        );
+  }
+
+  pub calm_aside : (v w : ListView) → Aside z v w → Calm z call v w
+  calm_aside v w a = record {
+    stepped = a.stepped;
+    stands = a.stands;
+    unplaced = a.unplaced;
+    losing_so = λ m n. (_, counts_losing list_reader z (list_over z) call v w a m n);
+    effected_so = λ m n few later. (_, counts_effected list_reader z (list_over z) call v w a m n few later);
+  }
+
+  pub calm_both : (u v w : ListView) → Calm z call u v → Calm z call v w → Calm z call u w
+  calm_both u v w a b = record {
+    stepped = stepped_both u v w a.stepped b.stepped;
+    stands = λ own stands. b.stands own (a.stands (own_before v w b.stepped own) stands);
+    unplaced = unplaced_on u v w a.stepped.number a.unplaced b.unplaced;
+    losing_so = λ m n. let x = a.losing_so m n in let y = b.losing_so x.0 n in
+        (y.0, ran_both list_reader (map_sizes z) call (losing m n) (losing x.0 n) (losing y.0 n) u v w x.1 y.1);
+    effected_so = λ m n few later. let x = a.effected_so m n few later in let y = b.effected_so x.0 n few (later ++ steps_made u v) in (
+      y.0,
+      ran_as list_reader (map_sizes z) call (effected m n few later) _ _ u w
+          (ap (λ (l : List Step). effected y.0 n few l) (append_assoc later (steps_made u v) (steps_made v w)
+          ∙ ap (λ (l : List Step). later ++ l) (sym (stretch_both u v w a.stepped b.stepped))))
+          (ran_both list_reader (map_sizes z) call (effected m n few later) (effected x.0 n few (later ++ steps_made u v))
+          (effected y.0 n few ((later ++ steps_made u v) ++ steps_made v w)) u v w x.1 y.1),
+    );
+  }

@@ -1,0 +1,16 @@
+pub mod Reading
+pub mod Resting
+pub mod Filling
+pub mod Taking
+pub mod Calm
+pub mod Closing
+pub mod Values
+pub mod Losing
+pub mod Arriving
+pub mod Treading
+pub mod Again
+pub mod Trying
+pub mod Marking
+pub mod Unlinking
+pub mod Publishing
+pub mod Taken

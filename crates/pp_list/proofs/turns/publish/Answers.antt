@@ -1,0 +1,47 @@
+use Rattle.std.proofs.Common.{◌≡◌, ◌<◌, ◌+◌, ◌≤◌, ℕ, length, Option, Some, None, refl, sym, ap, ◌∙◌, subst, arith}
+use Rattle.pp_pool.specs.declared.fresh.Fresh.{Fresh}
+use Rattle.pp_base.specs.Passes.{known, view}
+use Rattle.pp_base.specs.declared.purse.Purse.{Purse}
+use Rattle.pp_model.specs.declared.Turned.{Turned}
+use Rattle.pp_calls.proofs.Purses.{same_share}
+use Rattle.pp_list.specs.declared.going.Next.TheVariants.{Over}
+use Rattle.pp_list.specs.Purses.{TakesOne, TakesNone}
+use Rattle.pp_list.specs.Turned.{Part, HasRecord, ListTurned}
+use Rattle.pp_list.proofs.Losing.{four_chains}
+use Rattle.pp_list.proofs.Taken.{bare, not_struck, inserts_now, put_turned, full_turned}
+use Rattle.pp_list.proofs.turns.publish.Goals as goal
+
+pub put_in-requires-clause-inserts : goal.put_in-requires-clause-inserts
+put_in-requires-clause-inserts c = let z = c.args.pool.now.layout in let g = c.args.going.now in let old = c.args.pass.now in
+    let mid = c.take_record.new.pass in let x = c.requires.under in let fresh = c.in-Some.fresh in
+    inserts_now z old.share g c.args.found (view old.seat) (view mid.seat) old.purse mid.purse c.requires.at fresh c.take_record.ensures.same.sizes
+    (subst (λ (h : Option Fresh). TakesOne z h fresh (view old.seat) (view mid.seat) old.purse mid.purse) c.take-had.ensures.value
+    c.in-Some.ensures.some) x.0 x.1.0 x.1.1
+
+pub returns-in-Some-clause-turned : goal.returns-in-Some-clause-turned
+returns-in-Some-clause-turned c = let z = c.args.pool.now.layout in let g = c.args.going.now in let old = c.args.pass.now in
+    let mid = c.take_record.new.pass in let x = c.requires.under in let fresh = c.in-Some.fresh in let new = c.put_in.new.pass in
+    let share = same_share 0 1 old.seat mid.seat _ _ _ _ _ _ _ _ old.keeping mid.keeping c.take_record.ensures.same in
+    put_turned z old.share g c.args.found (view old.seat) (view mid.seat) old.purse mid.purse c.requires.at fresh c.take_record.ensures.same.sizes
+    (subst (λ (h : Option Fresh). TakesOne z h fresh (view old.seat) (view mid.seat) old.purse mid.purse) c.take-had.ensures.value
+    c.in-Some.ensures.some) c.put_in.new.going (view new.seat) new.purse c.put_in.result
+    (not_struck z old.share g c.args.found (view old.seat) old.purse c.requires.at x.0 x.1.0 x.1.1)
+    (subst (λ (n : ℕ). Part z n (HasRecord z n (bare g) fresh (view mid.seat) mid.purse) (bare g) c.put_in.new.going (view mid.seat)
+    (view new.seat) new.purse c.put_in.result) share
+    (subst (λ (h : Option Fresh). Part z mid.share (HasRecord z mid.share (record g { fresh = h }) fresh (view mid.seat) mid.purse)
+    (record g { fresh = h }) c.put_in.new.going (view mid.seat) (view new.seat) new.purse c.put_in.result) c.take-had.ensures.after
+    c.put_in.ensures.part)) c.put_in.ensures.some_made
+
+pub returns-in-None-clause-turned : goal.returns-in-None-clause-turned
+returns-in-None-clause-turned c = let z = c.args.pool.now.layout in let g = c.args.going.now in let old = c.args.pass.now in
+    let mid = c.take_record.new.pass in let x = c.requires.under in let new = c.full.new.pass in
+    let counted = new.keeping.counted in let none : new.purse.taken ≡ 0 = c.full.ensures.resting.idle.2 in
+    let looks = c.full.ensures.looks in let still = c.in-None.ensures.none.ran_out.still_short in
+    let short = ap (λ l. length l.items) looks.free in
+    subst (λ (r : Turned). ListTurned z old.share g c.full.new.going (view old.seat) (view new.seat) old.purse new.purse r) (sym c.full.ensures.done)
+    (full_turned z old.share g c.args.found (view old.seat) (view mid.seat) (view new.seat) old.purse mid.purse new.purse c.requires.at
+    (c.full.ensures.same.sizes ∙ c.take_record.ensures.same.sizes)
+    (subst (λ (h : Option Fresh). TakesNone z h (view old.seat) (view mid.seat) old.purse mid.purse) c.take-had.ensures.value
+    c.in-None.ensures.none) looks (omega arith)
+    (four_chains (known new.seat) new.purse new.keeping.chains new.keeping.few) c.full.new.going
+    (subst (λ (h : Option Fresh). c.full.new.going ≡ record g { next = Over; fresh = h }) c.take-had.ensures.after c.full.ensures.over) x.0 x.1.0 x.1.1)

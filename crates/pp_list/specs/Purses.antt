@@ -1,0 +1,73 @@
+-- What a call on a list has of its purse, and what its parts make of it.
+use Rattle.std.specs.Prelude.{◌≡◌, ℕ, ◌+◌, ◌<◌, ◌≤◌, List, length, Option, Some, None}
+use Rattle.pp_link.specs.declared.layout.Sizes.{Sizes}
+use Rattle.pp_pool.specs.declared.fresh.Fresh.{Fresh}
+use Rattle.pp_pool.specs.Taken.{IsPrivate}
+use Rattle.pp_base.specs.declared.purse.Purse.{Purse}
+use Rattle.pp_base.specs.Named.{NamedStep}
+use Rattle.pp_calls.specs.Steps.{SamePurse}
+use Rattle.pp_purse.specs.Purses.{TidiesPurse, RanOut}
+use Rattle.pp_purse.specs.Steps.{PurseSteps}
+use Rattle.pp_lists.specs.Lists.{ListPass}
+use Rattle.pp_lists.specs.Turns.{ListView}
+use Rattle.pp_turns.specs.Causes.{Aside}
+use Rattle.pp_walk.specs.Trod.{Idles}
+
+-- how many records are out
+abbrev pub out_of : Option Fresh → ℕ
+out_of None = 0
+out_of (Some f) = 1
+
+-- no record is out, or this one, which is private
+abbrev pub HasOut : ListPass → Purse → Option Fresh → Type 0
+HasOut q p None = p.taken ≡ 0
+HasOut q p (Some f) = IsPrivate q p f.number × (p.taken ≡ 1)
+
+-- the record that was out, if there was one, is free again
+pub record GaveBackOut (fresh : Option Fresh) (p p' : Purse) : Type 0 where
+  pub taken : p'.taken ≡ 0
+  pub long : length p'.free.items ≡ length p.free.items + out_of fresh
+  pub going : p'.going ≡ p.going
+
+-- A call that only looked cleared its walk words.
+pub record LooksAway (v w : ListView) (p p' : Purse) : Type 0 where
+  pub idles : Idles v w
+  pub purse : SamePurse v w
+  pub free : p'.free ≡ p.free
+
+-- A call cleared its walk words, gave its record back and tidied.
+pub record TidiesUp (z : Sizes) (share : ℕ) (fresh : Option Fresh) (v w : ListView) (p p' : Purse) : Type 0 where
+  pub between : ListView
+  pub middle : Purse
+  pub idles : Idles v between
+  pub long : length middle.free.items ≡ length p.free.items + out_of fresh
+  pub last : Purse
+  pub tidies : TidiesPurse z share between w middle last
+  pub free : p'.free ≡ last.free
+
+-- A call that had one of its records out already, or none, has this one out. Of the free ones but for it none is gone.
+pub record TakesOne (z : Sizes) (had : Option Fresh) (f : Fresh) (v w : ListView) (p p' : Purse) : Type 0 where
+  pub names : List NamedStep
+  pub steps : PurseSteps z names v w
+  pub out : HasOut w.known p' (Some f)
+  pub kept : length p.free.items + out_of had ≤ length p'.free.items + 1
+
+-- It had none out, and found none.
+pub record TakesNone (z : Sizes) (had : Option Fresh) (v w : ListView) (p p' : Purse) : Type 0 where
+  pub none : had ≡ None
+  pub names : List NamedStep
+  pub steps : PurseSteps z names v w
+  pub ran_out : RanOut z 1 v w p p'
+  pub taken : p'.taken ≡ 0
+
+-- The pass made stores in its private records, and nothing else of it changed.
+pub record WritesAside (z : Sizes) (v w : ListView) : Type 0 where
+  pub aside : Aside z v w
+  pub own : w.known.own ≡ v.known.own
+  pub walk : w.known.walk ≡ v.known.walk
+  pub number : w.known.number ≡ v.known.number
+  pub sizes : w.known.sizes ≡ v.known.sizes
+  pub retired_are : w.known.retired ≡ v.known.retired
+  pub frontier : w.known.frontier ≡ v.known.frontier
+  pub chains : w.known.chains ≡ v.known.chains
+  pub scan : w.known.scan ≡ v.known.scan

@@ -1,0 +1,12 @@
+//! Calls on one list of a pool, turn by turn.
+#![tactic(auto)]
+
+pub mod calls;
+pub mod ending;
+pub mod going;
+pub mod parts;
+pub mod records;
+pub mod stored;
+pub mod turns;
+
+pub use going::{ListGoing, ListOp};
