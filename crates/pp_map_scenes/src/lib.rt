@@ -2,6 +2,6 @@
 #![tactic(auto)]
 
 #[cfg(test)]
-mod staging;
-#[cfg(test)]
 mod plain;
+#[cfg(test)]
+mod staging;
