@@ -185,7 +185,11 @@ ends_there z k s above n first key here read_place value equal v v1 v2 near abov
     known2 : v2.known ≡ v1.known
     known2 = ap (λ (u : TreeView). u.known) read.is
 
-    own2 : v2.known.own ≡ record v.known.own { going = e.0; flag = cond (nat_eq (flag_bit first) 1) (side_number n.side) 2 }
+    own2 : v2.known.own ≡ record v.known.own {
+      going = e.0;
+      flag = cond (nat_eq (flag_bit first) 1) (side_number n.side) 2;
+      beside = target first;
+    }
     own2 = ap (λ (q : TreePass). q.own) (known2 ∙ known1)
 
     at_is : v2.known.own.at ≡ s.word

@@ -457,6 +457,7 @@ module _ (z : Sizes) (words : List ℕ) (g : TreeState) (q : TreePass) (place k 
               call = refl;
               start = refl;
               flag = refl;
+              beside = refl;
               at = λ lt. (refl, self (slot q q.own.at) (mine.seated.held lt));
               top = λ lt. (refl, refl, self (slot q q.own.top) (mine.seated.top_held lt));
             } mine.seated;

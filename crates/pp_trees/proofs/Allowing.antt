@@ -239,6 +239,7 @@ tags_here opens z slots id at sd me lone same may = let place = cell_place z (sl
             ),
           ));
           leaf = (tagging.passed z words g q place sd b tr pass is may).leaf;
+          beside = tagging.passed_beside z words g q place sd b tr pass is may;
           made = made;
         },
       );

@@ -243,13 +243,14 @@ module _ (z : Sizes) (words : List ℕ) (g : TreeState) (q : TreePass) (place i 
 
   -- The edge leads to a leaf: the call stays where it stands, holds the leaf, and knows FLAG of the edge.
   abbrev pub at_leaf : Bool → TreeOwn
-  at_leaf going = record q.own { going = going; flag = cond (eqb (flag_bit first) 1) sd 2 }
+  at_leaf going = record q.own { going = going; flag = cond (eqb (flag_bit first) 1) sd 2; beside = target first }
 
   same_seat : (own : TreeOwn) → own.at ≡ q.own.at → own.top ≡ q.own.top → own.path ≡ q.own.path → own.call ≡ q.own.call
       → own.start ≡ q.own.start
       → (own.at < 5 → own.flag < 2 → flag_bit (t1.link (slot q q.own.at).named own.flag) ≡ 1)
+      → (own.at < 5 → own.flag < 2 → target (t1.link (slot q q.own.at).named own.flag) ≡ own.beside)
       → Seated z t1 (log_of g.order) (slot (came own)) own
-  same_seat own a tp p cl st flag = record {
+  same_seat own a tp p cl st flag to = record {
     held = λ lt. subst (λ (j : ℕ). (slot (came own) j).held ≡ true) (sym a) (ap (λ (x : WalkSlot). x.held)
         (others own q.own.at at (seated.held at)) ∙ seated.held at);
     since = λ lt. subst (λ (x : ℕ). x ≤ length (log_of g.order)) (sym st) (seated.since at);
@@ -263,6 +264,8 @@ module _ (z : Sizes) (words : List ℕ) (g : TreeState) (q : TreePass) (place i 
     flag = λ lt two. subst (λ (j : ℕ). flag_bit (t1.link (slot (came own) j).named own.flag) ≡ 1) (sym a)
         (subst (λ (x : WalkSlot). flag_bit (t1.link x.named own.flag) ≡ 1) (sym (others own q.own.at at (seated.held at)))
         (flag lt two));
+    beside = λ lt two. ap (λ (j : ℕ). target (t1.link (slot (came own) j).named own.flag)) a
+        ∙ (ap (λ (x : WalkSlot). target (t1.link x.named own.flag)) (others own q.own.at at (seated.held at)) ∙ to lt two);
     top_held = λ lt. let low' = subst (λ (x : ℕ). x < 5) tp lt in
         subst (λ (j : ℕ). (slot (came own) j).held ≡ true) (sym tp) (ap (λ (x : WalkSlot). x.held) (others own q.own.top low'
         (seated.top_held low')) ∙ seated.top_held low');
@@ -291,8 +294,16 @@ module _ (z : Sizes) (words : List ℕ) (g : TreeState) (q : TreePass) (place i 
       (λ ne. let off : cond (eqb (flag_bit first) 1) sd 2 ≡ 2 = ap (λ (b : Bool). cond b sd 2) (ne_eqb
       (flag_bit first) 1 ne) in absurd (omega arith))
 
+  beside_there : (going : Bool) → (at_leaf going).at < 5 → (at_leaf going).flag < 2
+      → target (t1.link (slot q q.own.at).named (at_leaf going).flag) ≡ target first
+  beside_there going lt two = dite (ℕ_discrete (flag_bit first) 1)
+      (λ e. subst (λ (r : ℕ). target (t1.link (slot q q.own.at).named r) ≡ target first) (sym (ap (λ (b : Bool). cond b sd 2)
+      (eq-eqb (flag_bit first) 1 e))) (ap target word))
+      (λ ne. let off : cond (eqb (flag_bit first) 1) sd 2 ≡ 2 = ap (λ (b : Bool). cond b sd 2) (ne_eqb
+      (flag_bit first) 1 ne) in absurd (omega arith))
+
   pub seated_at_leaf : (going : Bool) → Seated z t1 (log_of g.order) (slot (came (at_leaf going))) (at_leaf going)
-  seated_at_leaf going = same_seat (at_leaf going) refl refl refl refl refl (flag_there going)
+  seated_at_leaf going = same_seat (at_leaf going) refl refl refl refl refl (flag_there going) (beside_there going)
 
   -- what the call finds at the leaf is right since its start
   pub right_there : bit ≡ 1 → IsRight (log_of g.order) q.own.start (key_of q.own.call) (answer t1 (key_of q.own.call) first)
@@ -357,6 +368,7 @@ module _ (z : Sizes) (words : List ℕ) (g : TreeState) (q : TreePass) (b : Base
         pair = λ lt. absurd (omega arith);
         standing = λ lt. absurd (omega arith);
         flag = λ lt two. absurd (omega arith);
+        beside = λ lt two. absurd (omega arith);
         top_held = λ lt. absurd (omega arith);
         joined = λ lt. absurd (omega arith);
         intact = λ lt on. absurd (omega arith);

@@ -275,6 +275,7 @@ module _ (z : Sizes) (words : List ℕ) (g : TreeState) (q : TreePass) (leaf pla
               call = refl;
               start = refl;
               flag = refl;
+              beside = refl;
               at = λ lt. (refl, self (slot q q.own.at) (mine.seated.held lt));
               top = λ lt. (refl, refl, self (slot q q.own.top) (mine.seated.top_held lt));
             } mine.seated);
@@ -295,6 +296,7 @@ module _ (z : Sizes) (words : List ℕ) (g : TreeState) (q : TreePass) (leaf pla
         pair = y.pair;
         standing = y.standing;
         flag = λ lt two. ap flag_bit marked.wired.there ∙ odd first may.plain;
+        beside = λ lt two. ap target marked.wired.there ∙ even first may.plain;
         top_held = y.top_held;
         joined = y.joined;
         intact = y.intact;

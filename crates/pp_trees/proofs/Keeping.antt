@@ -43,6 +43,7 @@ stands_same z t log q q' same a = record {
   call = ap (λ (o : TreeOwn). o.call) same.own;
   start = ap (λ (o : TreeOwn). o.start) same.own;
   flag = ap (λ (o : TreeOwn). o.flag) same.own;
+  beside = ap (λ (o : TreeOwn). o.beside) same.own;
   at = λ lt. let e = ap (λ (o : TreeOwn). o.at) same.own in let low : q.own.at < 5 = subst (λ (x : ℕ). x < 5) e lt in
       (e, subst (λ (x : ℕ). StillHeld (slot q q.own.at) (slot q' x)) (sym e) (same.holds.each q.own.at low (a.held low)));
   top = λ lt. let e = ap (λ (o : TreeOwn). o.top) same.own in let low : q.own.top < 5 = subst (λ (x : ℕ). x < 5) e lt in (
@@ -61,6 +62,7 @@ stands_cleared z t log i q q' c a = record {
   call = ap (λ (o : TreeOwn). o.call) c.own;
   start = ap (λ (o : TreeOwn). o.start) c.own;
   flag = ap (λ (o : TreeOwn). o.flag) c.own;
+  beside = ap (λ (o : TreeOwn). o.beside) c.own;
   at = λ lt. let e = ap (λ (o : TreeOwn). o.at) c.own in dite (ℕ_discrete q.own.at i)
       (λ same. let gone : q'.own.at ≡ 5 = e ∙ ap (λ (b : Bool). cond b 5 q.own.at) (eq-eqb q.own.at i same) in
       absurd (omega arith))

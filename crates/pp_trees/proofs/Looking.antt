@@ -424,7 +424,7 @@ module _ (opens : Sizes → List ℕ) (z : Sizes) where
         (ended_pass i sd first key1 value1 going q1) me.0 v
     held_there {kind} {left} {cs} {ps} going v made = subst (λ (c : ℕ). MadeStep kind place n1 left cs ps (record q1 {
       walk = set q1.walk i (holding c (cell_word words z c 0) (halves (cell_word words z c 1) (cell_word words z c 4)));
-      own = record q1.own { going = going; flag = cond (eqb (flag_bit first) 1) sd 2 };
+      own = record q1.own { going = going; flag = cond (eqb (flag_bit first) 1) sd 2; beside = target first };
     }) me.0 v) (ap target e) made
 
     -- the reply is settled

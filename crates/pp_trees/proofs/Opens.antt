@@ -282,6 +282,7 @@ idle z t p slots = record {
     pair = λ lt. absurd (omega arith);
     standing = λ lt. absurd (omega arith);
     flag = λ lt f. absurd (omega arith);
+    beside = λ lt f. absurd (omega arith);
     top_held = λ lt. absurd (omega arith);
     joined = λ lt. absurd (omega arith);
     intact = λ lt on. absurd (omega arith);

@@ -61,6 +61,7 @@ module _ (z : Sizes) (t : Heap) (sane : Sane z t) (tree : SearchTree z t) where
       pair = λ lt. pair;
       standing = λ lt. subst (λ (n : ℕ). Standing t log own.start (key_of own.call) n) (sym (named_here ∙ one)) s;
       flag = λ lt two. absurd (omega arith);
+      beside = λ lt two. absurd (omega arith);
       top_held = λ lt. absurd (omega arith);
       joined = λ lt. absurd (omega arith);
       intact = λ lt on. absurd (omega arith);
@@ -89,6 +90,7 @@ module _ (z : Sizes) (t : Heap) (sane : Sane z t) (tree : SearchTree z t) where
         pair = λ lt. seated.pair at;
         standing = λ lt. stands;
         flag = λ lt two. absurd (omega arith);
+        beside = λ lt two. absurd (omega arith);
         top_held = λ lt. held_here;
         joined = λ lt. (w, (w, (sym (named_here ∙ to), refl)));
         intact = λ lt on b k. absurd (in_nil b k);
@@ -116,6 +118,7 @@ module _ (z : Sizes) (t : Heap) (sane : Sane z t) (tree : SearchTree z t) where
         pair = λ lt. seated.pair at;
         standing = λ lt. stands;
         flag = λ lt two. absurd (omega arith);
+        beside = λ lt two. absurd (omega arith);
         top_held = λ lt. ap (λ (x : WalkSlot). x.held) (others own.top lt (seated.top_held lt)) ∙ seated.top_held lt;
         joined = λ lt. (
           first,
@@ -141,13 +144,15 @@ module _ (z : Sizes) (t : Heap) (sane : Sane z t) (tree : SearchTree z t) where
 
     -- FLAG that was read at the last edge stays known
     pub seated_flag : (r : ℕ) → Seated z t log slots own → (own.at < 5 → r < 2
-        → flag_bit (t.link (slots own.at).named r) ≡ 1) → Seated z t log slots (record own { flag = r })
-    seated_flag r s on = record {
+        → flag_bit (t.link (slots own.at).named r) ≡ 1) → (own.at < 5 → r < 2 → target (t.link (slots own.at).named r) ≡ own.beside)
+        → Seated z t log slots (record own { flag = r })
+    seated_flag r s on to = record {
       held = s.held;
       since = s.since;
       pair = s.pair;
       standing = s.standing;
       flag = on;
+      beside = to;
       top_held = s.top_held;
       joined = s.joined;
       intact = s.intact;

@@ -147,7 +147,7 @@ module _ (z : Sizes) (words : List ℕ) (g : TreeState) (q : TreePass) (place i 
   a = answer (heap z words g.status) (key_of q.own.call) first
 
   abbrev own : TreeOwn
-  own = record q.own { going = false; flag = cond (eqb (flag_bit first) 1) sd 2 }
+  own = record q.own { going = false; flag = cond (eqb (flag_bit first) 1) sd 2; beside = target first }
 
   abbrev pub held_leaf : TreePass
   held_leaf = came z words g q place i sd first b tr pass is low free named at side_is place_is 1 is_edge found own

@@ -31,7 +31,7 @@ pub record Lasting (z : Sizes) (t t' : Heap) : Type 0 where
   pub paths : (first last : ℕ) (cs : List Passed) → Joined first cs last → Intact z t cs → t'.state (target first) ≡ attached
       → Intact z t' cs
   pub flags : (n s : ℕ) → IsNumber z n → IsUsed (t.state n) → IsUsed (t'.state n) → s < 2 → flag_bit (t.link n s) ≡ 1
-      → flag_bit (t'.link n s) ≡ 1
+      → (flag_bit (t'.link n s) ≡ 1) × (target (t'.link n s) ≡ target (t.link n s))
 
 -- what stands in the words of a pass is in use, before and after
 pub record AllUsed (z : Sizes) (t t' : Heap) (slots : ℕ → WalkSlot) (j : ℕ) : Type 0 where
@@ -44,6 +44,7 @@ pub record StandsStill (slots slots' : ℕ → WalkSlot) (own own' : TreeOwn) : 
   pub call : own'.call ≡ own.call
   pub start : own'.start ≡ own.start
   pub flag : own'.flag ≡ own.flag
+  pub beside : own'.beside ≡ own.beside
   pub at : own'.at < 5 → (own'.at ≡ own.at) × StillHeld (slots own.at) (slots' own'.at)
   pub top : own'.top < 5 → (own'.top ≡ own.top) × (own'.path ≡ own.path) × StillHeld (slots own.top) (slots' own'.top)
 
@@ -70,7 +71,13 @@ module _ (z : Sizes) (t t' : Heap) (log log' : List Change) (sane : Sane z t) (s
         let two' : own.flag < 2 = subst (λ (x : ℕ). x < 2) s.flag two in
         subst (λ (n : ℕ). flag_bit (t'.link n own'.flag) ≡ 1) (sym y.1.named) (subst (λ (r : ℕ). flag_bit (t'.link
         (slots own.at).named r) ≡ 1) (sym s.flag)
-        (d.flags (slots own.at).named own.flag u.number u.used u.used' two' (a.flag low two')));
+        (d.flags (slots own.at).named own.flag u.number u.used u.used' two' (a.flag low two')).0);
+    beside = λ lt two. let y = s.at lt in let low : own.at < 5 = subst (λ (x : ℕ). x < 5) y.0 lt in
+        let u = in_use own.at low (a.held low) (subst (λ (x : ℕ). StillHeld (slots own.at) (slots' x)) y.0 y.1) in
+        let two' : own.flag < 2 = subst (λ (x : ℕ). x < 2) s.flag two in
+        ap (λ (n : ℕ). target (t'.link n own'.flag)) y.1.named ∙ (ap (λ (r : ℕ). target (t'.link (slots own.at).named r)) s.flag
+        ∙ ((d.flags (slots own.at).named own.flag u.number u.used u.used' two' (a.flag low two')).1
+        ∙ (a.beside low two' ∙ sym s.beside)));
     top_held = λ lt. (s.top lt).2.held;
     joined = λ lt. let y = s.top lt in let low : own.top < 5 = subst (λ (x : ℕ). x < 5) y.0 lt in let j = a.joined low in
         (j.0, (j.1.0, (j.1.1.0 ∙ sym y.2.named, subst (λ (cs : List Passed). Joined j.0 cs j.1.0) (sym y.1) j.1.1.1)));
@@ -102,15 +109,17 @@ module _ (z : Sizes) (t t' : Heap) (sane : Sane z t) (tree : SearchTree z t) whe
             ∙ ap (λ (x : ℕ). flag_bit (t.link p x)) at.1) ∙ flag in omega arith)) ∙ h.beside;
       }
 
-  flag_rewired : (p s w : ℕ) → Rewired z t t' p s w → (flag_bit (t.link p s) ≡ 1 → flag_bit w ≡ 1) → (n r : ℕ) → IsNumber z n
-      → r < 2
-      → flag_bit (t.link n r) ≡ 1 → flag_bit (t'.link n r) ≡ 1
+  flag_rewired : (p s w : ℕ) → Rewired z t t' p s w
+      → (flag_bit (t.link p s) ≡ 1 → (flag_bit w ≡ 1) × (target w ≡ target (t.link p s))) → (n r : ℕ) → IsNumber z n → r < 2
+      → flag_bit (t.link n r) ≡ 1 → (flag_bit (t'.link n r) ≡ 1) × (target (t'.link n r) ≡ target (t.link n r))
   flag_rewired p s w wired still n r number lt flag = ⊎_elim
       (λ (at : (n ≡ p) × (r ≡ s)). let new : t'.link n r ≡ w = ap (λ (x : ℕ). t'.link x r) at.0 ∙ (ap (t'.link p) at.1
       ∙ wired.there) in
-      let old : t.link n r ≡ t.link p s = ap (λ (x : ℕ). t.link x r) at.0 ∙ ap (t.link p) at.1 in ap flag_bit new
-      ∙ still (sym (ap flag_bit old) ∙ flag))
-      (λ (ne : (n ≡ p) × (r ≡ s) → ⊥). ap flag_bit (wired.links n r number lt ne) ∙ flag) (is_there n r p s)
+      let old : t.link n r ≡ t.link p s = ap (λ (x : ℕ). t.link x r) at.0 ∙ ap (t.link p) at.1 in
+      let on = still (sym (ap flag_bit old) ∙ flag) in
+      (ap flag_bit new ∙ on.0, ap target new ∙ (on.1 ∙ sym (ap target old))))
+      (λ (ne : (n ≡ p) × (r ≡ s) → ⊥). let same = wired.links n r number lt ne in (ap flag_bit same ∙ flag, ap target same))
+      (is_there n r p s)
 
   pub lasting_published : (p s k c m : ℕ) → Published z t t' p s k c m → Lasting z t t'
   lasting_published p s k c m d = record {
@@ -149,7 +158,7 @@ module _ (z : Sizes) (t t' : Heap) (sane : Sane z t) (tree : SearchTree z t) whe
           (across_low c.side) ne) ∙ h.beside)
           (is_there c.number (across c.side) p s);
     };
-    flags = λ n r number used used' lt flag. flag_rewired p s w d.wired d.still n r number lt flag;
+    flags = λ n r number used used' lt flag. flag_rewired p s w d.wired (λ on. (d.still on, d.to)) n r number lt flag;
   }
 
   pub lasting_spliced : Sane z t' → (a s w : ℕ) (In : ℕ → Type 0) → Spliced z t t' a s w In → Lasting z t t'
@@ -190,5 +199,5 @@ module _ (z : Sizes) (t t' : Heap) (sane : Sane z t) (tree : SearchTree z t) whe
           edge = d.valid c.number c.side h.number u h.low (sane'.leads c.number c.side h.number h.low on').valid ∙ h.edge;
           beside = (d.rest c.number (across c.side) h.number u (across_low c.side)).0 ∙ h.beside;
         };
-    flags = λ n r number used used' lt flag. let same = (d.rest n r number used' lt).1 in omega arith;
+    flags = λ n r number used used' lt flag. let same = d.rest n r number used' lt in let low = same.1 in (omega arith, same.0);
   }

@@ -117,6 +117,7 @@ module _ (z : Sizes) (words words' : List ℕ) (g : TreeState) (q q' : TreePass)
                   call = refl;
                   start = refl;
                   flag = refl;
+                  beside = refl;
                   at = λ lt. (refl, self (slot (g.of p) (g.of p).own.at) (was.seated.held lt));
                   top = λ lt. (refl, refl, self (slot (g.of p) (g.of p).own.top) (was.seated.top_held lt));
                 } was.seated;

@@ -143,6 +143,11 @@ module _ (z : Sizes) (words : List ℕ) (g : TreeState) (q : TreePass) (place sd
       tr.tree.tagged p sd (internal on) may.low ((held_p.learnt (sd, y.0) y.1.1).1.tag y.1.0))
       may.read
 
+  -- the leaf beside, where FLAG is known there
+  pub passed_beside : q.own.flag ≡ across sd → passed.leaf ≡ q.own.beside
+  passed_beside e = ap (λ (r : ℕ). target (t.link p r)) (sym e)
+      ∙ mine.seated.beside may.at (subst (λ (r : ℕ). r < 2) (sym e) (across_low sd))
+
   -- Neither R nor the right edge of S is tagged: no edge of R is flagged, and the left one of S isn't, since the leaf inf0 is
   -- there.
   not_root : p ≡ 1 → ⊥
@@ -238,6 +243,7 @@ module _ (z : Sizes) (words : List ℕ) (g : TreeState) (q : TreePass) (place sd
         call = refl;
         start = refl;
         flag = refl;
+        beside = refl;
         at = λ lt. (refl, self (slot q q.own.at) (mine.seated.held lt));
         top = λ lt. (refl, refl, self (slot q q.own.top) (mine.seated.top_held lt));
       } mine.seated in
@@ -253,6 +259,7 @@ module _ (z : Sizes) (words : List ℕ) (g : TreeState) (q : TreePass) (place sd
           pair = sat.pair;
           standing = sat.standing;
           flag = sat.flag;
+          beside = sat.beside;
           top_held = sat.top_held;
           joined = λ lt. (
             may.first,

@@ -125,7 +125,7 @@ pub record MayFlag (z : Sizes) (q : TreePass) (leaf place k first : ℕ) : Type 
 -- The pass after it: the reply is settled, and the call may seek again. The edge at the side s has FLAG, and its leaf l is
 -- removed.
 abbrev pub flagged_pass : ℕ → ℕ → TreePass → TreePass
-flagged_pass s l q = record q { own = record q.own { going = false; flag = s; left = l ∷ without l q.own.left } }
+flagged_pass s l q = record q { own = record q.own { going = false; flag = s; beside = l; left = l ∷ without l q.own.left } }
 
 -- The exchange of a remove or of a cut. Where the edge was as it was expected, the pair is removed.
 pub record Flags (leaf place k first found : ℕ) (before now : TreeView) : Type 0 where
@@ -156,6 +156,8 @@ tagged_pass c q = record q { own = record q.own { path = q.own.path ++ c ∷ [] 
 pub record Tags (place sd found : ℕ) (before now : TreeView) : Type 0 where
   pub small : IsSmall found
   pub leaf : ℕ
+  -- where FLAG is known of the other edge, it is the leaf to which that leads
+  pub beside : before.known.own.flag ≡ across sd → leaf ≡ before.known.own.beside
   pub made : MadeQuietStep tag_step place found (bit_or found 2)
       (tagged_pass (record {
         number = (slot before.known before.known.own.at).named;

@@ -37,6 +37,7 @@ pub record Seated (z : Sizes) (t : Heap) (log : List Change) (slots : ℕ → Wa
   pub standing : own.at < 5 → Standing t log own.start (key_of own.call) (slots own.at).named
   -- FLAG that was read there is there still
   pub flag : own.at < 5 → own.flag < 2 → flag_bit (t.link (slots own.at).named own.flag) ≡ 1
+  pub beside : own.at < 5 → own.flag < 2 → target (t.link (slots own.at).named own.flag) ≡ own.beside
   pub top_held : own.top < 5 → (slots own.top).held ≡ true
   pub joined : own.top < 5 → (first : ℕ) × ((last : ℕ) × ((target first ≡ (slots own.top).named) × Joined first own.path last))
   pub intact : own.top < 5 → t.state (slots own.top).named ≡ attached → Intact z t own.path

@@ -23,7 +23,17 @@ use Rattle.pp_trees.specs.Edges.{TreeView, end_step}
 
 -- a call that begins at the head when so many changes have taken effect, on a pass that removed these
 abbrev pub begun : Call → ℕ → List ℕ → TreeOwn
-begun call start left = record { going = true; call = call; start = start; at = 5; top = 5; path = []; flag = 2; left = left }
+begun call start left = record {
+  going = true;
+  call = call;
+  start = start;
+  at = 5;
+  top = 5;
+  path = [];
+  flag = 2;
+  beside = 0;
+  left = left;
+}
 
 -- The first load of a call, at the head: it begins. The head leads to the root.
 pub record Begins (place : ℕ) (call : Call) (found : ℕ) (before now : TreeView) : Type 0 where
@@ -109,7 +119,7 @@ found_at k key value edge = cond (nat_eq key k) (cond (nat_eq (flag_bit edge) 0)
 abbrev pub ended_pass : ℕ → ℕ → ℕ → ℕ → Halves → Bool → TreePass → TreePass
 ended_pass i sd first key value going q = record q {
   walk = slice_set q.walk i (holding (target first) key value);
-  own = record q.own { going = going; flag = cond (nat_eq (flag_bit first) 1) sd 2 };
+  own = record q.own { going = going; flag = cond (nat_eq (flag_bit first) 1) sd 2; beside = target first };
 }
 
 -- The reply to a find of a was settled at this step, which changes nothing. Its place is the least one since the call's start

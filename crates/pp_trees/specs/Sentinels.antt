@@ -36,7 +36,7 @@ sentinel_field n (suc (suc (suc (suc f)))) = 0
 
 -- no call was begun
 abbrev pub fresh_own : TreeOwn
-fresh_own = record { going = false; call = Get 0; start = 0; at = 5; top = 5; path = []; flag = 2; left = [] }
+fresh_own = record { going = false; call = Get 0; start = 0; at = 5; top = 5; path = []; flag = 2; beside = 0; left = [] }
 
 -- an edge with FLAG or TAG
 abbrev pub has_mark : ℕ → Bool

@@ -25,6 +25,8 @@ pub struct TreeOwn {
     pub path: LinkedList<Passed>,
     /// The side of the record where the call stands at which it read FLAG or set it; 2 where it did neither.
     pub flag: u64,
+    /// The leaf to which that edge leads.
+    pub beside: u64,
     /// The numbers of the leaves that the pass put FLAG on, but for those that it published again since.
     pub left: LinkedList<u64>,
 }
