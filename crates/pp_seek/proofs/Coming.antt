@@ -1,12 +1,12 @@
 -- What the parts of a turn of a seek come to.
 use Rattle.std.proofs.Common.{◌≡◌, ◌≢◌, inl, ⊎_elim, ℕ, ◌+◌, ◌*◌, ◌/◌, ◌%◌, ◌<◌, ◌≤◌, Bool, true, false, cond}
-use Rattle.std.proofs.Common.{length}
+use Rattle.std.proofs.Common.{List, [], ◌∷◌, ◌++◌, length}
 use Rattle.std.proofs.Common.{refl, sym, ap, ◌∙◌, subst, arith}
 use Rattle.std.specs.Prelude.{nat_lt}
 use Rattle.pp_link.specs.declared.layout.Sizes.{Sizes}
 use Rattle.pp_link.specs.declared.link.Link.{Link}
 use Rattle.pp_link.specs.Links.{bit, word_of, target, flag_bit, tag_bit, invalid_bit}
-use Rattle.pp_link.specs.Places.{cell_place}
+use Rattle.pp_link.specs.Places.{cell_place, head_place}
 use Rattle.pp_model.specs.Calls.{key_of}
 use Rattle.pp_rule.specs.Lists.{IsIn}
 use Rattle.pp_rule.specs.Orders.{announce_step}
@@ -16,7 +16,7 @@ use Rattle.pp_rule.specs.Steps.{MadeQuietStep, with_walk, learning}
 use Rattle.pp_rule.proofs.Slots.{slot_here, slot_else}
 use Rattle.pp_base.specs.declared.source.Side.{Side}
 use Rattle.pp_base.specs.Sources.{side_number}
-use Rattle.pp_base.specs.Named.{NamedStep, loads}
+use Rattle.pp_base.specs.Named.{NamedStep, loads, announces, confirms}
 use Rattle.pp_base.proofs.Named.{plain_one}
 use Rattle.pp_trees.specs.declared.own.TreeOwn.{TreeOwn}
 use Rattle.pp_trees.specs.Trees.{side, IsEdge}
@@ -28,14 +28,14 @@ use Rattle.pp_seek.specs.declared.seek.Spot.{Spot}
 use Rattle.pp_seek.specs.declared.turn.Next.{Next}
 use Rattle.pp_seek.specs.declared.turn.Down.{Down}
 use Rattle.pp_seek.specs.declared.turn.Down.TheVariants as downs
-use Rattle.pp_seek.specs.Trails.{Trail, IsEmpty, reads}
+use Rattle.pp_seek.specs.Trails.{Trail, Clears, IsEmpty, reads}
 use Rattle.pp_seek.specs.Keeping.{IsOf}
 use Rattle.pp_seek.specs.Seeking.{words_of, StandsIn, LetsAllGo, Near}
 use Rattle.pp_seek.specs.Seeking.{IsBroken, LostBy, found_invalid, found_other, outside, Loses}
 use Rattle.pp_seek.specs.Seeking.{SecondOther, KeyOutside, LosesThere, CameOn}
 use Rattle.pp_seek.specs.Seeking.{EndedAt, LookedDown}
 use Rattle.pp_seek.proofs.Staying.{learning_rest}
-use Rattle.pp_seek.proofs.Trailing.{trail_one, trail_both, in_first_part, in_second_part, in_that_one}
+use Rattle.pp_seek.proofs.Trailing.{trail_one, trail_both, both_names, front_behind, front_cleared}
 use Rattle.pp_seek.proofs.Letting.{call_by, call_on}
 use Rattle.pp_seek.proofs.Going.{SameHeld, word_used, stands_on, learning_held, learning_own, learnt_tag, empty_same}
 use Rattle.pp_seek.proofs.Going.{go_after}
@@ -64,27 +64,26 @@ load_trail sd place first v v1 t = let r = learning_rest has_mark v.known.own.at
     trail_one (loads place first) v v1 (inl (omega arith, omega arith)) (plain_one (loads place first)
     (learning has_mark v.known.own.at sd first v.known) v v1 r.number r.owned t.loaded.made)
 
-load_saw : (sd place first : ℕ) (v v1 : TreeView) (t : Looks sd place first v v1)
-    → IsIn (loads place first) (load_trail sd place first v v1 t).steps
-unfolding load_trail
-load_saw sd place first v v1 t = let r = learning_rest has_mark v.known.own.at sd first v.known in
-    in_that_one (loads place first) v v1 (inl (omega arith, omega arith)) (plain_one (loads place first)
-    (learning has_mark v.known.own.at sd first v.known) v v1 r.number r.owned t.loaded.made)
+load_names : (sd place first : ℕ) (v v1 : TreeView) (t : Looks sd place first v v1)
+    → (load_trail sd place first v v1 t).steps ≡ loads place first ∷ []
+unfolding load_trail trail_one
+load_names sd place first v v1 t = refl
 
 load_own : (sd place first : ℕ) (v v1 : TreeView) → Looks sd place first v v1 → v1.known.own ≡ v.known.own
 load_own sd place first v v1 t = ap (λ (u : TreeView). u.known.own) t.loaded.made.is
     ∙ learning_own v.known.own.at sd first v.known
 
 -- it found INVALID
-pub broken : (s : Spot) (sd place first : ℕ) (v v1 : TreeView) → Looks sd place first v v1 → invalid_bit first ≡ 1
-    → IsBroken s v v1
-broken s sd place first v v1 t bad = record {
+pub broken : (z : Sizes) (sd place first : ℕ) (v v1 : TreeView) → Looks sd place first v v1 → head_place z 0 < place
+    → invalid_bit first ≡ 1 → IsBroken z v v1
+broken z sd place first v v1 t far bad = record {
   own = load_own sd place first v v1 t;
-  loses = record {
-    trail = load_trail sd place first v v1 t;
-    cause = found_invalid place first
-        (load_saw sd place first v v1 t) bad;
-  };
+  trail = load_trail sd place first v v1 t;
+  place = place;
+  far = far;
+  word = first;
+  bad = bad;
+  steps_are = load_names sd place first v v1 t;
 }
 
 -- it didn't, and the record that it leads to is announced
@@ -96,6 +95,7 @@ pub near : (z : Sizes) (k : ℕ) (s : Spot) (sd : Side) (first : ℕ) (link : Li
     → word < 5 → (IsOf (words_of s) word → ⊥) → number ≡ target first
     → MadeQuietStep announce_step place number number (with_walk word (naming number) v1.known) v1 v2
     → Near z k s (record { side = sd; link = link; word = word }) v v2
+unfolding trail_one
 near z k s sd first link word number place v v1 v2 st call side_is five five1 t word_is valid low out number_is made = record {
   near = record {
     call_is = ap (λ (o : TreeOwn). key_of o.call) own ∙ call;
@@ -123,12 +123,15 @@ near z k s sd first link word number place v v1 v2 st call side_is five five1 t 
   };
   own = own;
   trail = trail_both v v1 v2 loaded announced;
-  saw = subst (λ (n : ℕ). IsIn (loads (cell_place z n (2 + side_number sd)) (word_of link))
-      (trail_both v v1 v2 loaded announced).steps) (sym spot_same.named)
-      (subst (λ (w : ℕ). IsIn (loads (cell_place z (slot v.known s.word).named (2 + side_number sd)) w)
-      (trail_both v v1 v2 loaded announced).steps) (sym word_is)
-      (in_first_part v v1 v2 loaded announced (loads (cell_place z (slot v.known s.word).named (2 + side_number sd)) first)
-      (load_saw (side_number sd) (cell_place z (slot v.known s.word).named (2 + side_number sd)) first v v1 t)));
+  far = omega arith;
+  announced = place;
+  number = number;
+  steps_are = both_names (loads (cell_place z (slot v.known s.word).named (2 + side_number sd)) first ∷ [])
+      (announces place number ∷ []) v v1 v2 loaded announced
+      (load_names (side_number sd) (cell_place z (slot v.known s.word).named (2 + side_number sd)) first v v1 t) refl
+      ∙ (ap (λ (n : ℕ). loads (cell_place z n (2 + side_number sd)) first ∷ announces place number ∷ []) (sym spot_same.named)
+      ∙ ap (λ (w : ℕ). loads (cell_place z (slot v2.known s.word).named (2 + side_number sd)) w ∷ announces place number ∷ [])
+      (sym word_is));
 }
   where
     loaded : Trail v v1
@@ -166,44 +169,32 @@ near z k s sd first link word number place v v1 v2 st call side_is five five1 t 
     spot_same : SameHeld (slot v.known s.word) (slot v2.known s.word)
     spot_same = same s.word st.low (λ e. out (subst (IsOf (words_of s)) e (word_used s)))
 
--- a cause is one of the longer trail too
-more_lost : (s : Spot) (d d' : NamedStep → Type 0) → ((x : NamedStep) → d x → d' x) → LostBy s d → LostBy s d'
-more_lost s d d' f (found_invalid place w saw bad) = found_invalid place w (f (loads place w) saw) bad
-more_lost s d d' f (found_other place kind first second a b ne) = found_other place kind first second (f
-    (loads place first) a) (f (record { kind = kind; place = place; word = second }) b) ne
-more_lost s d d' f (outside place key saw out) = outside place key (f (reads place key) saw) out
-
 -- a turn that was lost at its first load
-pub lost_first : (s : Spot) (v v1 v2 : TreeView) → IsBroken s v v1 → LetsAllGo v1 v2 → LetsAllGo v v2 × Loses s v v2
-lost_first s v v1 v2 b l = (
-  go_after v v1 v2 b.loses.trail (call_by v.known.own v1.known.own b.own) l,
+pub lost_first : (z : Sizes) (s : Spot) (v v1 v2 : TreeView) → IsBroken z v v1 → LetsAllGo v1 v2 → Clears v1 v2
+    → LetsAllGo v v2 × Loses z s v v2
+lost_first z s v v1 v2 b l c = (
+  go_after v v1 v2 (call_by v.known.own v1.known.own b.own) l,
   record {
-    trail = trail_both v v1 v2 b.loses.trail l.trail;
-    cause = more_lost s (λ x. IsIn x b.loses.trail.steps) (λ x. IsIn x (trail_both v v1 v2 b.loses.trail l.trail).steps)
-        (λ x i. in_first_part v v1 v2 b.loses.trail l.trail x i) b.loses.cause;
+    trail = trail_both v v1 v2 b.trail c.trail;
+    cause = found_invalid b.place b.word b.far (front_cleared (loads b.place b.word ∷ []) v v1 v2 b.trail c b.steps_are) b.bad;
   },
 )
 
 -- a turn that was lost later
 lost_later : (z : Sizes) (k : ℕ) (s : Spot) (n : Next) (v v1 v2 : TreeView) → Near z k s n v v1 → LosesThere z s n v1 v2
-    → Loses s v v2
-lost_later z k s n v v1 v2 a l = record {
-  trail = trail_both v v1 v2 a.trail l.trail;
-  cause = ⊎_elim
-      (λ (o : SecondOther z s n v1 (λ step. IsIn step l.trail.steps)). found_other (cell_place z (slot v1.known s.word).named
-      (2 + side_number n.side)) o.kind (word_of n.link) o.second
-      (in_first_part v v1 v2 a.trail l.trail (loads (cell_place z (slot v1.known s.word).named (2 + side_number n.side))
-      (word_of n.link)) a.saw)
-      (in_second_part v v1 v2 a.trail l.trail (record {
-        kind = o.kind;
-        place = cell_place z (slot v1.known s.word).named
-            (2 + side_number n.side);
-        word = o.second;
-      }) o.saw) o.other)
-      (λ (o : KeyOutside s (λ step. IsIn step l.trail.steps)). outside o.place o.key (in_second_part v v1 v2 a.trail l.trail
-      (reads o.place o.key) o.saw) o.outside)
-      l.cause;
-}
+    → Loses z s v v2
+lost_later z k s n v v1 v2 a l = let p : ℕ = cell_place z (slot v1.known s.word).named (2 + side_number n.side) in
+    let w : ℕ = word_of n.link in let pre : List NamedStep = loads p w ∷ announces a.announced a.number ∷ [] in record {
+      trail = trail_both v v1 v2 a.trail l.trail;
+      cause = ⊎_elim
+          (λ (o : SecondOther z s n v1 l.trail.steps). found_other p o.kind w o.second a.announced a.number a.far
+          (front_behind pre (record { kind = o.kind; place = p; word = o.second } ∷ []) v v1 v2 a.trail l.trail a.steps_are o.saw)
+          o.which a.near.valid o.other)
+          (λ (o : KeyOutside z s n v1 l.trail.steps). outside p w a.announced a.number o.read o.key a.far
+          (front_behind pre (confirms p w ∷ reads o.read o.key ∷ []) v v1 v2 a.trail l.trail a.steps_are o.saw)
+          a.near.valid o.outside)
+          l.cause;
+    }
 
 -- the second part of a turn after the first one
 pub down_inner : (z : Sizes) (k : ℕ) (s : Spot) (n : Next) (v v1 v2 : TreeView) (d : Down) → Near z k s n v v1
@@ -217,19 +208,32 @@ down_inner z k s n v v1 v2 downs.Moved a c = (
   lost_later z k s n v v1 v2 a c.1,
 )
 down_inner z k s n v v1 v2 downs.Broken a c = (
-  go_after v v1 v2 a.trail
-      (call_by v.known.own v1.known.own a.own) c.0,
+  go_after v v1 v2 (call_by v.known.own v1.known.own a.own) c.0,
   lost_later z k s n v v1 v2 a c.1,
 )
-down_inner z k s n v v1 v2 (downs.Came next) a c = record {
-  stands = c.stands;
-  same = call_on v.known.own v1.known.own v2.known.own (call_by v.known.own v1.known.own a.own) c.same;
-  between = c.between;
-  low_is = c.low_is ∙ ap (λ (o : TreeOwn). cond (nat_lt (key_of o.call) next.key) s.low (next.key + 1)) a.own;
-  high_is = c.high_is ∙ ap (λ (o : TreeOwn). cond (nat_lt (key_of o.call) next.key) next.key s.high) a.own;
-  narrows = c.narrows;
-  trail = trail_both v v1 v2 a.trail c.trail;
-}
+down_inner z k s n v v1 v2 (downs.Came next) a c =
+    let p : ℕ = cell_place z (slot v1.known s.word).named (2 + side_number n.side) in let w : ℕ = word_of n.link in (
+      record {
+        stands = c.0.stands;
+        same = call_on v.known.own v1.known.own v2.known.own (call_by v.known.own v1.known.own a.own) c.0.same;
+        between = c.0.between;
+        low_is = c.0.low_is ∙ ap (λ (o : TreeOwn). cond (nat_lt (key_of o.call) next.key) s.low (next.key + 1)) a.own;
+        high_is = c.0.high_is ∙ ap (λ (o : TreeOwn). cond (nat_lt (key_of o.call) next.key) next.key s.high) a.own;
+        narrows = c.0.narrows;
+        trail = trail_both v v1 v2 a.trail c.0.trail;
+      },
+      record {
+        place = p;
+        far = a.far;
+        first = w;
+        valid = a.near.valid;
+        announced = a.announced;
+        number = a.number;
+        read = c.1.read;
+        front = front_behind (loads p w ∷ announces a.announced a.number ∷ []) (confirms p w ∷ reads c.1.read next.key ∷ [])
+            v v1 v2 a.trail c.0.trail a.steps_are c.1.front;
+      },
+    )
 down_inner z k s n v v1 v2 (downs.Ended sought) a c = absurd c
 
 pub down_leaf : (z : Sizes) (k : ℕ) (s : Spot) (n : Next) (v v1 v2 : TreeView) (d : Down) → Near z k s n v v1
@@ -243,23 +247,36 @@ down_leaf z k s n v v1 v2 downs.Moved a c = (
   lost_later z k s n v v1 v2 a c.1,
 )
 down_leaf z k s n v v1 v2 downs.Broken a c = (
-  go_after v v1 v2 a.trail
-      (call_by v.known.own v1.known.own a.own) c.0,
+  go_after v v1 v2 (call_by v.known.own v1.known.own a.own) c.0,
   lost_later z k s n v v1 v2 a c.1,
 )
 down_leaf z k s n v v1 v2 (downs.Came next) a c = absurd c
-down_leaf z k s n v v1 v2 (downs.Ended sought) a c = record {
-  is = c.is;
-  last = c.last;
-  ended = c.ended;
-  until = trail_both v v1 c.last a.trail c.until;
-  own = c.own ∙ a.own;
-  value = c.value;
-  ends = c.ends;
-  value_is = c.value_is;
-  then = c.then;
-  still = c.still;
-}
+down_leaf z k s n v v1 v2 (downs.Ended sought) a c =
+    let p : ℕ = cell_place z (slot v1.known s.word).named (2 + side_number n.side) in (
+      record {
+        is = c.0.is;
+        last = c.0.last;
+        ended = c.0.ended;
+        until = trail_both v v1 c.0.last a.trail c.0.until;
+        then = c.0.then;
+        own = c.0.own ∙ a.own;
+        value = c.0.value;
+        ends = c.0.ends;
+        value_is = c.0.value_is;
+        still = c.0.still;
+      },
+      record {
+        place = p;
+        far = a.far;
+        announced = a.announced;
+        number = a.number;
+        read = c.1.2.0;
+        first_is = both_names (loads p (word_of n.link) ∷ announces a.announced a.number ∷ []) [] v v1 c.0.last a.trail c.0.until
+            a.steps_are c.1.0
+            ∙ ap (λ (l : Link). loads p (word_of l) ∷ announces a.announced a.number ∷ []) (sym c.1.1);
+        then_is = c.1.2.1;
+      },
+    )
 
 -- a walk word that isn't in use is empty after the first load too
 pub still_empty : (s : Spot) (sd place first : ℕ) (v v1 : TreeView) → StandsIn v.known s → length v.known.walk ≡ 5

@@ -1,6 +1,6 @@
 -- A seek that tries to end at a leaf.
 use Rattle.std.proofs.Common.{◌≡◌, ◌≢◌, inl, inr, ℕ, ◌+◌, ◌<◌, Bool, true, false, cond}
-use Rattle.std.proofs.Common.{List, length, Option, Some}
+use Rattle.std.proofs.Common.{List, [], ◌∷◌, length, Option, Some}
 use Rattle.std.proofs.Common.{refl, sym, ap, ◌∙◌, subst, arith, eq-eqb}
 use Rattle.std.specs.Prelude.{nat_eq}
 use Rattle.pp_link.specs.declared.layout.Sizes.{Sizes}
@@ -25,16 +25,17 @@ use Rattle.pp_trees.specs.Edges.{TreeView, end_step}
 use Rattle.pp_trees.specs.Seeks.{found_at, ended_pass, Ended}
 use Rattle.pp_seek.specs.declared.seek.Above.{Above}
 use Rattle.pp_seek.specs.declared.seek.Spot.{Spot}
+use Rattle.pp_seek.specs.declared.seek.Sought.{Sought}
 use Rattle.pp_seek.specs.declared.turn.Next.{Next}
 use Rattle.pp_seek.specs.declared.turn.Down.{Down}
 use Rattle.pp_seek.specs.declared.turn.Down.TheVariants as downs
-use Rattle.pp_seek.specs.Trails.{Trail}
+use Rattle.pp_seek.specs.Trails.{Trail, Clears, reads}
 use Rattle.pp_seek.specs.Keeping.{IsOf}
 use Rattle.pp_seek.specs.Seeking.{words_by, words_of, IsAbove, Over, IsNear, Backs, LosesThere, EndedAt, Ends}
-use Rattle.pp_seek.proofs.Trailing.{trail_none, trail_both, in_first_part}
+use Rattle.pp_seek.proofs.Trailing.{trail_none, trail_one, trail_both, front_cleared}
 use Rattle.pp_seek.proofs.Letting.{call_by}
 use Rattle.pp_seek.proofs.Going.{word_used, go_after}
-use Rattle.pp_seek.proofs.Further.{step_trail, step_saw}
+use Rattle.pp_seek.proofs.Further.{step_trail}
 
 -- the second load found another word
 module _ (z : Sizes) (k : ℕ) (s : Spot) (n : Next) (second : ℕ) (v v1 v2 : TreeView)
@@ -47,21 +48,19 @@ module _ (z : Sizes) (k : ℕ) (s : Spot) (n : Next) (second : ℕ) (v v1 v2 : T
   same_known : v1.known ≡ v.known
   same_known = ap (λ (u : TreeView). u.known) made.is
 
-  loses : Trail v1 v2 → LosesThere z s n v v2
-  unfolding end_trail
-  loses t = record {
-    trail = trail_both v v1 v2 end_trail t;
+  loses : Clears v1 v2 → LosesThere z s n v v2
+  unfolding end_trail step_trail trail_one
+  loses c = record {
+    trail = trail_both v v1 v2 end_trail c.trail;
     cause = inl record {
       kind = end_step;
       second = second;
-      saw = in_first_part v v1 v2 end_trail t (record {
+      saw = front_cleared (record {
         kind = end_step;
-        place = cell_place z (slot v.known s.word).named
-            (2 + side_number n.side);
+        place = cell_place z (slot v.known s.word).named (2 + side_number n.side);
         word = second;
-      })
-          (step_saw end_step (cell_place z (slot v.known s.word).named (2 + side_number n.side)) second v.known v v1
-          (inr refl) refl refl made);
+      } ∷ []) v v1 v2 end_trail c refl;
+      which = inr refl;
       other = other;
     };
   }
@@ -69,9 +68,8 @@ module _ (z : Sizes) (k : ℕ) (s : Spot) (n : Next) (second : ℕ) (v v1 v2 : T
   pub ended_back : (d : Down) → Backs s v1 v2 d → EndedAt z k s n v v2 d
   ended_back downs.Moved b = (record { stands = b.0.stands; own = b.0.own ∙ ap (λ (q : TreePass). q.own) same_known }, loses b.1)
   ended_back downs.Broken b = (
-    go_after v v1 v2 end_trail (call_by v.known.own v1.known.own (ap (λ
-        (q : TreePass). q.own) same_known)) b,
-    loses b.trail,
+    go_after v v1 v2 (call_by v.known.own v1.known.own (ap (λ (q : TreePass). q.own) same_known)) b.0,
+    loses b.1,
   )
   ended_back (downs.Came next) b = absurd b
   ended_back (downs.Ended sought) b = absurd b
@@ -97,25 +95,30 @@ ended_held i sd place first key value v w low five t = let e = ended_known i sd 
     ap (λ (x : WalkSlot). x.held) (slot_here v.known w.known i (holding (target first) key value) (ap (λ
     (q : TreePass). q.walk) e.1) (omega arith))
 
+-- what a seek ends at from there
+abbrev pub reached : Spot → Above → Next → Bool → Sought
+reached s above n equal = record {
+  ancestor = Walk above.ancestor;
+  ancestor_side = above.side;
+  successor = above.successor;
+  parent = Walk s.word;
+  side = n.side;
+  edge = n.link;
+  word = n.word;
+  equal = equal;
+}
+
 -- the second load found the same word
 pub ends_there : (z : Sizes) (k : ℕ) (s : Spot) (above : Above) (n : Next) (first key here read_place : ℕ) (value : Halves)
     (equal : Bool) (v v1 v2 : TreeView) → IsNear v.known k s n
     → s.above ≡ Some above → length v.known.walk ≡ 5 → first ≡ word_of n.link → leaf_bit (word_of n.link) ≡ 1
     → Ended n.word (side_number n.side) (cell_place z (slot v.known s.word).named (2 + side_number n.side)) first key value v v1
     → MadeQuietStep read_step read_place here here v1.known v1 v2 → here ≡ (slot v1.known n.word).key → equal ≡ nat_eq here k
-    → Ends z k (record {
-      ancestor = Walk above.ancestor;
-      ancestor_side = above.side;
-      successor = above.successor;
-      parent = Walk
-          s.word;
-      side = n.side;
-      edge = n.link;
-      word = n.word;
-      equal = equal;
-    }) v v2
+    → (e : Ends z k (reached s above n equal) v v2) × ((e.until.steps ≡ []) × (n.link ≡ n.link)
+    × ((read : ℕ) × (e.then.steps ≡ reads read (slot v2.known n.word).key ∷ [])))
+unfolding trail_none step_trail trail_one
 ends_there z k s above n first key here read_place value equal v v1 v2 near above_is five first_is leaf ended read here_is
-    equal_is = record {
+    equal_is = (record {
       is = record {
         ancestor = above.ancestor;
         ancestor_is = refl;
@@ -167,7 +170,8 @@ ends_there z k s above n first key here read_place value equal v v1 v2 near abov
       value_is = ap (λ (x : WalkSlot). x.value) there;
       then = step_trail read_step read_place here v1.known v1 v2 (inl (omega arith, omega arith)) refl refl read;
       still = ap (λ (q : TreePass). q.own) known2;
-    }
+    }, (refl, refl, (read_place, ap (λ (x : ℕ). reads read_place x ∷ []) (here_is
+    ∙ ap (λ (q : TreePass). (slot q n.word).key) (sym known2)))))
   where
     o : IsAbove v.known s.word above
     o = subst (Over v.known s.word) above_is near.stands.over

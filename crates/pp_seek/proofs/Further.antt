@@ -31,30 +31,22 @@ use Rattle.pp_seek.specs.declared.seek.Spot.{Spot}
 use Rattle.pp_seek.specs.declared.turn.Next.{Next}
 use Rattle.pp_seek.specs.declared.turn.Down.{Down}
 use Rattle.pp_seek.specs.declared.turn.Down.TheVariants as downs
-use Rattle.pp_seek.specs.Trails.{IsSilent, Trail, SameCall, reads}
+use Rattle.pp_base.specs.Named.{confirms}
+use Rattle.pp_seek.specs.Trails.{IsSilent, Trail, Clears, SameCall, reads}
 use Rattle.pp_seek.specs.Keeping.{IsOf, KeepsOnly}
 use Rattle.pp_seek.specs.Seeking.{words_by, words_of, Over, LetsAllGo, IsNear}
-use Rattle.pp_seek.specs.Seeking.{Backs, width, further_spot, LosesThere, ComesFurther, CameOn}
-use Rattle.pp_seek.proofs.Trailing.{trail_one, trail_both, in_first_part, in_second_part, in_that_one}
+use Rattle.pp_seek.specs.Seeking.{Backs, width, further_spot, LosesThere, Confirms, ComesFurther, CameOn}
+use Rattle.pp_seek.proofs.Trailing.{trail_one, trail_both, front_cleared}
 use Rattle.pp_seek.proofs.Letting.{call_by, call_on}
 use Rattle.pp_seek.proofs.Going.{word_used, lets_go, none_of, go_after}
 use Rattle.pp_seek.proofs.Coming.{tag_of}
 
 -- a quiet step, by its name
-pub step_trail : (kind place word : ℕ) (known : TreePass) (v w : TreeView) → IsSilent kind → known.number ≡ v.known.number
+unfoldable pub step_trail : (kind place word : ℕ) (known : TreePass) (v w : TreeView) → IsSilent kind → known.number ≡ v.known.number
     → known.owned ≡ v.known.owned
     → MadeQuietStep kind place word word known v w → Trail v w
 step_trail kind place word known v w low number owned made =
     trail_one (record { kind = kind; place = place; word = word }) v w low (plain_one
-    (record { kind = kind; place = place; word = word }) known v w number owned made)
-
-pub step_saw : (kind place word : ℕ) (known : TreePass) (v w : TreeView) (low : IsSilent kind)
-    (number : known.number ≡ v.known.number) (owned : known.owned ≡ v.known.owned)
-    (made : MadeQuietStep kind place word word known v w) → IsIn (record { kind = kind; place = place; word = word })
-    (step_trail kind place word known v w low number owned made).steps
-unfolding step_trail
-step_saw kind place word known v w low number owned made =
-    in_that_one (record { kind = kind; place = place; word = word }) v w low (plain_one
     (record { kind = kind; place = place; word = word }) known v w number owned made)
 
 -- The second load found another word: nothing changed, and the pass goes back.
@@ -69,21 +61,16 @@ module _ (z : Sizes) (s : Spot) (n : Next) (second : ℕ) (v v1 v2 : TreeView)
   same_known : v1.known ≡ v.known
   same_known = ap (λ (u : TreeView). u.known) made.is
 
-  loses : Trail v1 v2 → LosesThere z s n v v2
-  unfolding confirm_trail
-  loses t = record {
-    trail = trail_both v v1 v2 confirm_trail t;
+  loses : Clears v1 v2 → LosesThere z s n v v2
+  unfolding confirm_trail step_trail trail_one
+  loses c = record {
+    trail = trail_both v v1 v2 confirm_trail c.trail;
     cause = inl record {
       kind = confirm_step;
       second = second;
-      saw = in_first_part v v1 v2 confirm_trail t (record {
-        kind = confirm_step;
-        place = cell_place z
-            (slot v.known s.word).named (2 + side_number n.side);
-        word = second;
-      })
-          (step_saw confirm_step (cell_place z (slot v.known s.word).named (2 + side_number n.side)) second v.known v v1 (inl
-          (omega arith, omega arith)) refl refl made);
+      saw = front_cleared (confirms (cell_place z (slot v.known s.word).named (2 + side_number n.side)) second ∷ [])
+          v v1 v2 confirm_trail c refl;
+      which = inl refl;
       other = other;
     };
   }
@@ -91,9 +78,8 @@ module _ (z : Sizes) (s : Spot) (n : Next) (second : ℕ) (v v1 v2 : TreeView)
   pub came_back : (d : Down) → Backs s v1 v2 d → CameOn z s n v v2 d
   came_back downs.Moved b = (record { stands = b.0.stands; own = b.0.own ∙ ap (λ (q : TreePass). q.own) same_known }, loses b.1)
   came_back downs.Broken b = (
-    go_after v v1 v2 confirm_trail (call_by v.known.own v1.known.own (ap (λ
-        (q : TreePass). q.own) same_known)) b,
-    loses b.trail,
+    go_after v v1 v2 (call_by v.known.own v1.known.own (ap (λ (q : TreePass). q.own) same_known)) b.0,
+    loses b.1,
   )
   came_back (downs.Came next) b = absurd b
   came_back (downs.Ended sought) b = absurd b
@@ -161,6 +147,15 @@ module _ (z : Sizes) (k : ℕ) (s : Spot) (n : Next) (first leaf key here read_p
   read_trail : Trail v1 v2
   read_trail = step_trail read_step read_place here v1.known v1 v2 (inl (omega arith, omega arith)) refl refl read
 
+  both_trail : Trail v v2
+  both_trail = trail_both v v1 v2 confirm_trail2 read_trail
+
+  both_are : both_trail.steps ≡ confirms (cell_place z (slot v.known s.word).named (2 + side_number n.side)) (word_of n.link)
+      ∷ reads read_place here ∷ []
+  unfolding both_trail confirm_trail2 read_trail step_trail trail_one trail_both
+  both_are = ap (λ (w : ℕ). confirms (cell_place z (slot v.known s.word).named (2 + side_number n.side)) w
+      ∷ reads read_place here ∷ []) first_is
+
   there : slot v2.known n.word ≡ holding (target first) key value
   there = ap (λ (q : TreePass). slot q n.word) known2
       ∙ slot_here v.known v1.known n.word (holding (target first) key value) (ap (λ (q : TreePass). q.walk) known1)
@@ -173,18 +168,15 @@ module _ (z : Sizes) (k : ℕ) (s : Spot) (n : Next) (first leaf key here read_p
   -- its key lies outside the bounds
   pub goes_back : (here < s.low) ⊎ (s.high ≤ here) → KeepsOnly (record { first = 5; second = 5; third = 5 }) 5 v2 v3
       → LetsAllGo v v3 × LosesThere z s n v v3
-  unfolding read_trail
   goes_back out keeps = (
-    go_after v v2 v3 (trail_both v v1 v2 confirm_trail2 read_trail) call1 (lets_go
-        (record { first = 5; second = 5; third = 5 }) v2 v3 none_of keeps),
+    go_after v v2 v3 call1 (lets_go (record { first = 5; second = 5; third = 5 }) v2 v3 none_of keeps),
     record {
-      trail = trail_both v v1 v3 confirm_trail2 (trail_both v1 v2 v3 read_trail keeps.trail);
+      trail = trail_both v v2 v3 both_trail keeps.cleared.trail;
       cause = inr record {
-        place = read_place;
+        read = read_place;
         key = here;
-        saw = in_second_part v v1 v3 confirm_trail2 (trail_both v1 v2 v3 read_trail keeps.trail) (reads read_place here)
-            (in_first_part v1 v2 v3 read_trail keeps.trail (reads read_place here)
-            (step_saw read_step read_place here v1.known v1 v2 (inl (omega arith, omega arith)) refl refl read));
+        saw = front_cleared (confirms (cell_place z (slot v.known s.word).named (2 + side_number n.side)) (word_of n.link)
+            ∷ reads read_place here ∷ []) v v2 v3 both_trail keeps.cleared both_are;
         outside = out;
       };
     },
@@ -206,6 +198,11 @@ module _ (z : Sizes) (k : ℕ) (s : Spot) (n : Next) (first leaf key here read_p
       go true = omega arith
       go false = omega arith
 
+  -- the call came there, by these steps
+  abbrev Came : Spot → Type 0
+  Came next = (c : ComesFurther s next v v3)
+      × Confirms (cell_place z (slot v.known s.word).named (2 + side_number n.side)) (word_of n.link) next.key c.trail.steps
+
   spot_apart : s.word ≢ n.word
   spot_apart e = near.other (subst (IsOf (words_of s)) e (word_used s))
 
@@ -213,9 +210,9 @@ module _ (z : Sizes) (k : ℕ) (s : Spot) (n : Next) (first leaf key here read_p
       → (v2.known.own.top < 5 → IsOf (words_of (spot_by tag)) v2.known.own.top)
       → (((j : ℕ) → IsOf (words_of (spot_by tag)) j → slot v3.known j ≡ slot v2.known j) → v3.known.own ≡ v2.known.own
       → Over v3.known n.word (spot_by tag).above)
-      → KeepsOnly (words_of (spot_by tag)) 5 v2 v3 → ComesFurther s (spot_by tag) v v3
+      → KeepsOnly (words_of (spot_by tag)) 5 v2 v3 → Came (spot_by tag)
   comes tag low high at used top over keeps = let own3 = keeps.own (subst (IsOf (words_of (spot_by tag)))
-      (sym at) used) top in let kept = keeps.kept n.word used in record {
+      (sym at) used) top in let kept = keeps.kept n.word used in (record {
         stands = record {
           low = near.low;
           held = ap (λ (x : WalkSlot). x.held) (kept ∙ there);
@@ -229,12 +226,16 @@ module _ (z : Sizes) (k : ℕ) (s : Spot) (n : Next) (first leaf key here read_p
         low_is = ap (λ (x : ℕ). cond (nat_lt x here) s.low (here + 1)) (sym near.call_is);
         high_is = ap (λ (x : ℕ). cond (nat_lt x here) here s.high) (sym near.call_is);
         narrows = narrower tag low high;
-        trail = trail_both v v1 v3 confirm_trail2 (trail_both v1 v2 v3 read_trail keeps.trail);
-      }
+        trail = trail_both v v2 v3 both_trail keeps.cleared.trail;
+      }, record {
+        read = read_place;
+        front = front_cleared (confirms (cell_place z (slot v.known s.word).named (2 + side_number n.side)) (word_of n.link)
+            ∷ reads read_place here ∷ []) v v2 v3 both_trail keeps.cleared both_are;
+      })
 
   -- over an untagged edge
   comes_plain : n.link.tag ≡ false → s.low ≤ here → here < s.high → KeepsOnly (words_of (spot_by false)) 5 v2 v3
-      → ComesFurther s (spot_by false) v v3
+      → Came (spot_by false)
   comes_plain off low high keeps = comes false low high (ap (λ (o : TreeOwn). o.at) own2) (inl refl) (λ lt. inr (inr (ap (λ
       (o : TreeOwn). o.top) own2)))
       (λ kept own3. let at_spot = kept s.word (inr (inl refl)) ∙ else_ s.word spot_apart in record {
@@ -279,7 +280,7 @@ module _ (z : Sizes) (k : ℕ) (s : Spot) (n : Next) (first leaf key here read_p
 
   -- over a tagged one
   comes_tagged : n.link.tag ≡ true → s.low ≤ here → here < s.high → KeepsOnly (words_of (spot_by true)) 5 v2 v3
-      → ComesFurther s (spot_by true) v v3
+      → Came (spot_by true)
   comes_tagged on low high keeps = go s.above refl near.stands.over near.other keeps
     where
       tag_on : tag_bit (word_of n.link) ≡ 1
@@ -317,7 +318,7 @@ module _ (z : Sizes) (k : ℕ) (s : Spot) (n : Next) (first leaf key here read_p
           let bad : tag_bit 32 ≡ 1 = ap tag_bit (sym w) ∙ t in absurd (omega arith)
 
       go : (a : Option Above) → s.above ≡ a → Over v.known s.word a → (IsOf (words_by s.word a) n.word → ⊥)
-          → KeepsOnly (words_of (spot_by true)) 5 v2 v3 → ComesFurther s (spot_by true) v v3
+          → KeepsOnly (words_of (spot_by true)) 5 v2 v3 → Came (spot_by true)
       go None is o out k = absurd (no_root o.0 o.1)
       go (Some a) is o out k = let words : words_of (spot_by true) ≡ words_by n.word (Some a) = ap (words_by n.word) is in
           comes true low high (ap (λ (w : TreeOwn). w.at) own2) (subst (λ (w : Words). IsOf w n.word) (sym words) (inl refl))
@@ -355,9 +356,9 @@ module _ (z : Sizes) (k : ℕ) (s : Spot) (n : Next) (first leaf key here read_p
           })) k
 
   pub comes_further : s.low ≤ here → here < s.high → KeepsOnly (words_of (further_spot s n k here)) 5 v2 v3
-      → ComesFurther s (further_spot s n k here) v v3
+      → Came (further_spot s n k here)
   comes_further low high keeps = go n.link.tag refl keeps
     where
-      go : (b : Bool) → n.link.tag ≡ b → KeepsOnly (words_of (spot_by b)) 5 v2 v3 → ComesFurther s (spot_by b) v v3
+      go : (b : Bool) → n.link.tag ≡ b → KeepsOnly (words_of (spot_by b)) 5 v2 v3 → Came (spot_by b)
       go true is k = comes_tagged is low high k
       go false is k = comes_plain is low high k

@@ -1,5 +1,5 @@
 -- Where a seek stands after its loads.
-use Rattle.std.proofs.Common.{◌≡◌, ◌≢◌, ◌⊎◌, inl, inr, ⊎_elim, ℕ, ◌+◌, ◌*◌, ◌/◌, ◌%◌, ◌<◌, ◌≤◌, Bool, true, false, ◌&&◌, cond}
+use Rattle.std.proofs.Common.{◌≡◌, ◌≢◌, ◌⊎◌, inl, inr, ⊎_elim, ℕ, ◌+◌, ◌*◌, ◌/◌, ◌%◌, ◌<◌, ◌≤◌, Bool, true, false, ◌&&◌, cond, ◌++◌}
 use Rattle.std.proofs.Common.{eqb, List, [], ◌∷◌, length, set, get_or, Option, Some, None}
 use Rattle.std.proofs.Common.{refl, sym, ap, ◌∙◌, subst, arith}
 use Rattle.std.proofs.Math.Bool.{false≢true}
@@ -28,15 +28,16 @@ use Rattle.pp_trees.specs.Seeks.{Begins, LooksAgain, at_root, ComesToRoot, PathE
 use Rattle.pp_seek.specs.declared.keeping.Words.{Words}
 use Rattle.pp_seek.specs.declared.seek.Above.{Above}
 use Rattle.pp_seek.specs.declared.seek.Spot.{Spot}
-use Rattle.pp_seek.specs.Trails.{IsSilent, Trail, IsEmpty, SameCall}
+use Rattle.pp_base.specs.Named.{NamedStep, loads, announces, confirms, clears}
+use Rattle.pp_seek.specs.Trails.{IsSilent, Trail, Clears, IsEmpty, SameCall, reads}
 use Rattle.pp_seek.specs.Keeping.{IsOf, KeepsOnly}
 use Rattle.pp_seek.specs.Seeking.{words_by, words_of, Over, StandsBut, AtHead, LookedAtHead}
 use Rattle.pp_seek.specs.Seeking.{Enters, StaysThere, LetsAllGo}
-use Rattle.pp_seek.proofs.Trailing.{trail_one, trail_both}
+use Rattle.pp_seek.proofs.Trailing.{trail_one, trail_both, both_names, clears_one}
 use Rattle.pp_seek.proofs.Letting.{forget_other, call_by, call_on}
 
 -- a quiet step on a word that is no link's, or a load
-pub quiet_trail : (kind place word : ℕ) (known : TreePass) (v w : TreeView) → IsSilent kind → known.number ≡ v.known.number
+unfoldable pub quiet_trail : (kind place word : ℕ) (known : TreePass) (v w : TreeView) → IsSilent kind → known.number ≡ v.known.number
     → known.owned ≡ v.known.owned
     → MadeQuietStep kind place word word known v w → Trail v w
 quiet_trail kind place word known v w low number owned made =
@@ -46,23 +47,27 @@ quiet_trail kind place word known v w low number owned made =
 -- the head was loaded
 pub looked_first : (z : Sizes) (call : Call) (fresh : Bool) (n : ℕ) (v w : TreeView) → fresh ≡ true
     → Begins (head_place z 0) call n v w → LookedAtHead z call fresh v w
+unfolding quiet_trail trail_one
 looked_first z call fresh n v w is t = let known = ap (λ (u : TreeView). u.known) t.made.is in record {
   begins = λ _. subst (λ (x : ℕ). Begins (head_place z 0) call x v w) t.root t;
   again = λ off. absurd (false≢true (sym off ∙ is));
   call_is = ap (λ (q : TreePass). q.own.call) known;
   walk = ap (λ (q : TreePass). q.walk) known;
   trail = quiet_trail load_step (head_place z 0) n _ v w (inl (omega arith, omega arith)) refl refl t.made;
+  steps_are = ap (λ (x : ℕ). loads (head_place z 0) x ∷ []) t.root;
 }
 
 pub looked_again : (z : Sizes) (call : Call) (fresh : Bool) (n : ℕ) (v w : TreeView) → fresh ≡ false
     → AtHead v.known call fresh → LooksAgain (head_place z 0) n v w
     → LookedAtHead z call fresh v w
+unfolding quiet_trail trail_one
 looked_again z call fresh n v w is head t = let known = ap (λ (u : TreeView). u.known) t.made.is in record {
   begins = λ on. absurd (false≢true (sym is ∙ on));
   again = λ _. call_by v.known.own w.known.own (ap (λ (q : TreePass). q.own) known);
   call_is = ap (λ (q : TreePass). q.own.call) known ∙ head.call_is is;
   walk = ap (λ (q : TreePass). q.walk) known;
   trail = quiet_trail load_step (head_place z 0) n _ v w (inl (omega arith, omega arith)) refl refl t.made;
+  steps_are = ap (λ (x : ℕ). loads (head_place z 0) x ∷ []) t.root;
 }
 
 -- From the head to the root: it was looked at, the root was announced in the word 0, confirmed, and its key was read.
@@ -72,6 +77,7 @@ pub enters : (z : Sizes) (call : Call) (fresh : Bool) (n key place read_place : 
     → ComesToRoot 0 (head_place z 0) n v2 v3
     → MadeQuietStep read_step read_place key key v3.known v3 v4 → key ≡ (slot v3.known 0).key
     → Enters z call fresh (record { word = 0; key = key; low = 0; high = key; above = None }) v v4
+unfolding quiet_trail trail_one trail_both
 enters z call fresh n key place read_place v v1 v2 v3 v4 head look five announced came read key_is = record {
   stands = record {
     low = omega arith;
@@ -98,6 +104,12 @@ enters z call fresh n key place read_place v v1 v2 v3 v4 head look five announce
       (trail_both v2 v3 v4 (quiet_trail confirm_step (head_place z 0) n _ v2 v3 (inl
       (omega arith, omega arith)) refl refl came.made)
       (quiet_trail read_step read_place key v3.known v3 v4 (inl (omega arith, omega arith)) refl refl read)));
+  announced = place;
+  read = read_place;
+  steps_are = ap (λ (l : List NamedStep). l ++ announces place 1 ∷ confirms (head_place z 0) n ∷ reads read_place key ∷ [])
+      look.steps_are
+      ∙ ap (λ (x : ℕ). loads (head_place z 0) 16 ∷ announces place 1 ∷ confirms (head_place z 0) x ∷ reads read_place key ∷ [])
+      came.root;
 }
   where
     known2 : v2.known ≡ with_walk 0 (naming 1) v1.known
@@ -205,7 +217,7 @@ stands_on x y q q' s own same empty st = record {
 -- a walk word that isn't in use is cleared
 pub back_moved : (x place : ℕ) (v w : TreeView) (s : Spot) → length v.known.walk ≡ 5 → StandsBut x v.known s → x < 5
     → (IsOf (words_of s) x → ⊥)
-    → MadeQuietStep clear_step place 0 0 (clearing forget_word x v.known) v w → StaysThere s v w × Trail v w
+    → MadeQuietStep clear_step place 0 0 (clearing forget_word x v.known) v w → StaysThere s v w × Clears v w
 back_moved x place v w s five st low out made = let known : w.known ≡ clearing forget_word x v.known = ap (λ
     (u : TreeView). u.known) made.is in
     let walk = ap (λ (q : TreePass). q.walk) known in
@@ -226,23 +238,21 @@ back_moved x place v w s five st low out made = let known : w.known ≡ clearing
             (λ other. subst IsEmpty (sym (slot_else v.known w.known x (naming 0) walk j other)) (st.empty j lt never other))) st;
         own = own;
       },
-      quiet_trail clear_step place 0 _ v w (inl (omega arith, omega arith)) refl refl made,
+      clears_one place v w (plain_one (clears place) (clearing forget_word x v.known) v w refl refl made),
     )
 
 -- nothing is kept
 pub lets_go : (w : Words) (u v : TreeView) → ((j : ℕ) → j < 5 → IsOf w j → ⊥) → KeepsOnly w 5 u v → LetsAllGo u v
-lets_go w u v none k = record { empty = λ j low. k.emptied j low (none j low); same = k.call; trail = k.trail }
+lets_go w u v none k = record { empty = λ j low. k.emptied j low (none j low); same = k.call }
 
 pub none_of : (j : ℕ) → j < 5 → IsOf (record { first = 5; second = 5; third = 5 }) j → ⊥
 none_of j low is = ⊎_elim (λ (a : j ≡ 5). absurd (omega arith)) (λ (y : (j ≡ 5)
     ⊎ (j ≡ 5)). ⊎_elim (λ (b : j ≡ 5). absurd (omega arith)) (λ (c : j ≡ 5). absurd (omega arith)) y) is
 
-pub go_after : (u v w : TreeView) → Trail u v → SameCall u.known.own v.known.own → LetsAllGo v w → LetsAllGo u w
-go_after u v w t same l = record {
+pub go_after : (u v w : TreeView) → SameCall u.known.own v.known.own → LetsAllGo v w → LetsAllGo u w
+go_after u v w same l = record {
   empty = l.empty;
   same = call_on u.known.own v.known.own w.known.own same l.same;
-  trail =
-      trail_both u v w t l.trail;
 }
 
 -- what was learnt changes nothing of what is held

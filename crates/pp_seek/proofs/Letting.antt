@@ -19,7 +19,7 @@ use Rattle.pp_trees.specs.Edges.{TreeView}
 use Rattle.pp_seek.specs.declared.keeping.Words.{Words}
 use Rattle.pp_seek.specs.Trails.{IsEmpty, SameCall}
 use Rattle.pp_seek.specs.Keeping.{IsOf, KeepsAt, KeepsOnly}
-use Rattle.pp_seek.proofs.Trailing.{trail_none, trail_one, trail_both, call_same}
+use Rattle.pp_seek.proofs.Trailing.{clears_none, clears_one, clears_both, call_same}
 
 pub is_of : (w : Words) (j : ℕ) → IsOf w j ⊎ (IsOf w j → ⊥)
 is_of w j = dite (ℕ_discrete j w.first) (λ a. inl (inl a)) (λ na. dite (ℕ_discrete j w.second) (λ b. inl (inr (inl b)))
@@ -64,7 +64,7 @@ keeps_none w i v is = record {
   kept = λ _. refl;
   others = λ j ne. refl;
   own = inl refl;
-  trail = trail_none v;
+  cleared = clears_none v;
 }
 
 pub keeps_empty : (z : Sizes) (w : Words) (i : ℕ) (v : TreeView) → IsPassOf z v.known → i < 5 → (slot v.known i).named ≡ 0
@@ -74,7 +74,7 @@ keeps_empty z w i v pass low none = record {
   kept = λ _. refl;
   others = λ j ne. refl;
   own = inl refl;
-  trail = trail_none v;
+  cleared = clears_none v;
 }
 
 pub keeps_cleared : (z : Sizes) (w : Words) (i place : ℕ) (v v' : TreeView) → IsPassOf z v.known → i < 5 → (IsOf w i → ⊥)
@@ -87,8 +87,7 @@ keeps_cleared z w i place v v' pass low never made = let is : v'.known ≡ clear
       kept = λ yes. absurd (never yes);
       others = λ j ne. slot_else v.known v'.known i (naming 0) walk j ne;
       own = inr (never, ap (λ (q : TreePass). q.own) is);
-      trail = trail_one (clears place) v v' (inl (omega arith, omega arith)) (plain_one (clears place)
-          (clearing forget_word i v.known) v v' refl refl made);
+      cleared = clears_one place v v' (plain_one (clears place) (clearing forget_word i v.known) v v' refl refl made);
     }
 
 pub keeps_first : (w : Words) (v : TreeView) → KeepsOnly w 0 v v
@@ -98,7 +97,7 @@ keeps_first w v = record {
   later = λ j le. refl;
   call = call_same v.known.own;
   own = λ a t. refl;
-  trail = trail_none v;
+  cleared = clears_none v;
 }
 
 pub keeps_next : (w : Words) (n : ℕ) (u v v' : TreeView) → n < 5 → KeepsOnly w n u v → KeepsAt w n v v' → KeepsOnly w (n + 1) u v'
@@ -119,5 +118,5 @@ keeps_next w n u v v' five k a = record {
       (λ e. y.0 (subst (IsOf w) (ap (λ (o : TreeOwn). o.at) (sym before) ∙ e) at))
       (λ e. let is : u.known.own.top ≡ n = ap (λ (o : TreeOwn). o.top) (sym before)
       ∙ e in y.0 (subst (IsOf w) is (top (omega arith)))) ∙ before)) a.own;
-  trail = trail_both u v v' k.trail a.trail;
+  cleared = clears_both u v v' k.cleared a.cleared;
 }

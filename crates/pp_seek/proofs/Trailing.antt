@@ -1,17 +1,17 @@
 -- The steps of a turn of a seek, put together.
-use Rattle.std.proofs.Common.{⊎_elim, [], ◌∷◌, ◌++◌, refl, subst}
+use Rattle.std.proofs.Common.{◌≡◌, inl, ⊎_elim, ℕ, List, [], ◌∷◌, ◌++◌, refl, sym, ap, ◌∙◌, subst, append-nil, append_assoc, arith}
 use Rattle.pp_rule.specs.Lists.{IsIn}
-use Rattle.pp_rule.proofs.Put.{in_nil, in_one, in_either, in_first, in_left, in_right}
-use Rattle.pp_base.specs.Named.{NamedStep, MadeOne}
+use Rattle.pp_rule.proofs.Put.{in_nil, in_one, in_either}
+use Rattle.pp_base.specs.Named.{NamedStep, MadeOne, clears}
 use Rattle.pp_base.proofs.Named.{made_append, made_single}
 use Rattle.pp_trees.specs.Edges.{TreeView}
 use Rattle.pp_trees.specs.declared.own.TreeOwn.{TreeOwn}
-use Rattle.pp_seek.specs.Trails.{IsSilent, Trail, SameCall}
+use Rattle.pp_seek.specs.Trails.{IsSilent, Trail, IsFront, Clears, SameCall}
 
-pub trail_none : (v : TreeView) → Trail v v
+unfoldable pub trail_none : (v : TreeView) → Trail v v
 trail_none v = record { steps = []; did = refl; silent = λ s i. absurd (in_nil s i) }
 
-pub trail_one : (s : NamedStep) (v w : TreeView) → IsSilent s.kind → MadeOne s v w → Trail v w
+unfoldable pub trail_one : (s : NamedStep) (v w : TreeView) → IsSilent s.kind → MadeOne s v w → Trail v w
 trail_one s v w low one = record {
   steps = s ∷ [];
   did = made_single s v w one;
@@ -19,7 +19,7 @@ trail_one s v w low one = record {
       (y : NamedStep). IsSilent y.kind) (in_one x s i) low;
 }
 
-pub trail_both : (u v w : TreeView) → Trail u v → Trail v w → Trail u w
+unfoldable pub trail_both : (u v w : TreeView) → Trail u v → Trail v w → Trail u w
 trail_both u v w a b = record {
   steps = a.steps ++ b.steps;
   did = made_append a.steps b.steps u v w a.did b.did;
@@ -30,18 +30,50 @@ trail_both u v w a b = record {
 pub call_same : (own : TreeOwn) → SameCall own own
 call_same own = record { call = refl; start = refl; going = refl; left = refl }
 
--- the steps of both parts are steps of the whole
-pub in_first_part : (u v w : TreeView) (a : Trail u v) (b : Trail v w) (s : NamedStep) → IsIn s a.steps
-    → IsIn s (trail_both u v w a b).steps
-unfolding trail_both
-in_first_part u v w a b s i = in_left s a.steps b.steps i
+-- the steps are exactly these
+pub front_exact : (front steps : List NamedStep) → steps ≡ front → IsFront front steps
+front_exact front steps is = record { clears = []; is = is ∙ sym (append-nil front); each = λ s i. absurd (in_nil s i) }
 
-pub in_second_part : (u v w : TreeView) (a : Trail u v) (b : Trail v w) (s : NamedStep) → IsIn s b.steps
-    → IsIn s (trail_both u v w a b).steps
+-- a trail of these steps, and then of others
+pub front_behind : (pre front : List NamedStep) (u v w : TreeView) (a : Trail u v) (l : Trail v w) → a.steps ≡ pre
+    → IsFront front l.steps → IsFront (pre ++ front) (trail_both u v w a l).steps
 unfolding trail_both
-in_second_part u v w a b s i = in_right s a.steps b.steps i
+front_behind pre front u v w a l is f = record {
+  clears = f.clears;
+  is = ap (λ (x : List NamedStep). x ++ l.steps) is ∙ (ap (λ (x : List NamedStep). pre ++ x) f.is ∙ sym (append_assoc pre front f.clears));
+  each = f.each;
+}
 
-pub in_that_one : (s : NamedStep) (v w : TreeView) (low : IsSilent s.kind) (one : MadeOne s v w)
-    → IsIn s (trail_one s v w low one).steps
+-- and then of clears
+pub front_cleared : (front : List NamedStep) (u v w : TreeView) (a : Trail u v) (c : Clears v w) → a.steps ≡ front
+    → IsFront front (trail_both u v w a c.trail).steps
+unfolding trail_both
+front_cleared front u v w a c is = record {
+  clears = c.trail.steps;
+  is = ap (λ (x : List NamedStep). x ++ c.trail.steps) is;
+  each = c.each;
+}
+
+pub both_names : (xs ys : List NamedStep) (u v w : TreeView) (a : Trail u v) (b : Trail v w) → a.steps ≡ xs → b.steps ≡ ys
+    → (trail_both u v w a b).steps ≡ xs ++ ys
+unfolding trail_both
+both_names xs ys u v w a b x y = ap (λ (l : List NamedStep). l ++ b.steps) x ∙ ap (λ (l : List NamedStep). xs ++ l) y
+
+pub clears_none : (v : TreeView) → Clears v v
+unfolding trail_none
+clears_none v = record { trail = trail_none v; each = λ s i. absurd (in_nil s i) }
+
+pub clears_one : (place : ℕ) (v w : TreeView) → MadeOne (clears place) v w → Clears v w
 unfolding trail_one
-in_that_one s v w low one = in_first s []
+clears_one place v w one = record {
+  trail = trail_one (clears place) v w (inl (omega arith, omega arith)) one;
+  each = λ s i. ap (λ (x : NamedStep). x.kind) (sym (in_one s (clears place) i));
+}
+
+pub clears_both : (u v w : TreeView) → Clears u v → Clears v w → Clears u w
+unfolding trail_both
+clears_both u v w a b = record {
+  trail = trail_both u v w a.trail b.trail;
+  each = λ s i. ⊎_elim (λ (first : IsIn s a.trail.steps). a.each s first) (λ (then : IsIn s b.trail.steps). b.each s then)
+      (in_either s a.trail.steps b.trail.steps i);
+}

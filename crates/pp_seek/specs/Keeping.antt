@@ -4,7 +4,7 @@ use Rattle.pp_rule.specs.Views.{slot}
 use Rattle.pp_trees.specs.Searches.{forget_word}
 use Rattle.pp_trees.specs.Edges.{TreeView}
 use Rattle.pp_seek.specs.declared.keeping.Words.{Words}
-use Rattle.pp_seek.specs.Trails.{Trail, IsEmpty, SameCall}
+use Rattle.pp_seek.specs.Trails.{Clears, IsEmpty, SameCall}
 
 abbrev pub IsOf : Words → ℕ → Type 0
 IsOf w j = (j ≡ w.first) ⊎ ((j ≡ w.second) ⊎ (j ≡ w.third))
@@ -15,7 +15,7 @@ pub record KeepsAt (w : Words) (i : ℕ) (before now : TreeView) : Type 0 where
   pub kept : IsOf w i → now.known ≡ before.known
   pub others : (j : ℕ) → j ≢ i → slot now.known j ≡ slot before.known j
   pub own : (now.known.own ≡ before.known.own) ⊎ ((IsOf w i → ⊥) × (now.known.own ≡ forget_word i before.known.own))
-  pub trail : Trail before now
+  pub cleared : Clears before now
 
 -- So it is of all walk words below n.
 pub record KeepsOnly (w : Words) (n : ℕ) (before now : TreeView) : Type 0 where
@@ -26,4 +26,4 @@ pub record KeepsOnly (w : Words) (n : ℕ) (before now : TreeView) : Type 0 wher
   -- where the words that the tree's part names are kept, that part is as it was
   pub own : IsOf w before.known.own.at → (before.known.own.top < 5 → IsOf w before.known.own.top)
       → now.known.own ≡ before.known.own
-  pub trail : Trail before now
+  pub cleared : Clears before now

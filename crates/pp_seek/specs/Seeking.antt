@@ -1,6 +1,6 @@
 -- Where a seek stands, and what its turns make of its pass.
 use Rattle.std.specs.Prelude.{◌≡◌, ◌≢◌, ◌⊎◌, ℕ, ◌+◌, ◌-◌, ◌%◌, ◌<◌, ◌≤◌, Bool, true, false, nat_eq, nat_lt, cond, Option}
-use Rattle.std.specs.Prelude.{Some, None}
+use Rattle.std.specs.Prelude.{Some, None, List, [], ◌∷◌}
 use Rattle.pp_link.specs.declared.layout.Sizes.{Sizes}
 use Rattle.pp_link.specs.Links.{word_of, target, flag_bit, tag_bit, invalid_bit}
 use Rattle.pp_link.specs.Places.{head_place, cell_place}
@@ -11,11 +11,11 @@ use Rattle.pp_rule.specs.Lists.{IsIn}
 use Rattle.pp_rule.specs.Views.{slot}
 use Rattle.pp_base.specs.declared.source.Place.TheVariants.{Walk}
 use Rattle.pp_base.specs.Sources.{side_number}
-use Rattle.pp_base.specs.Named.{NamedStep, loads}
+use Rattle.pp_base.specs.Named.{NamedStep, loads, announces, confirms}
 use Rattle.pp_trees.specs.Trees.{side, IsEdge, inf0, inf2}
 use Rattle.pp_trees.specs.TaggedPaths.{Joined}
 use Rattle.pp_trees.specs.Searches.{TreePass}
-use Rattle.pp_trees.specs.Edges.{TreeView}
+use Rattle.pp_trees.specs.Edges.{TreeView, end_step}
 use Rattle.pp_trees.specs.Seeks.{Begins, Ended}
 use Rattle.pp_seek.specs.declared.keeping.Words.{Words}
 use Rattle.pp_seek.specs.declared.seek.Above.{Above}
@@ -27,7 +27,8 @@ use Rattle.pp_seek.specs.declared.seek.SeekTurn.TheVariants as turns
 use Rattle.pp_seek.specs.declared.turn.Next.{Next}
 use Rattle.pp_seek.specs.declared.turn.Down.{Down}
 use Rattle.pp_seek.specs.declared.turn.Down.TheVariants as downs
-use Rattle.pp_seek.specs.Trails.{Trail, IsEmpty, SameCall, reads}
+use Rattle.pp_rule.specs.Orders.{confirm_step}
+use Rattle.pp_seek.specs.Trails.{Trail, IsFront, Clears, IsEmpty, SameCall, reads}
 use Rattle.pp_seek.specs.Keeping.{IsOf}
 
 -- the walk words that are in use
@@ -101,6 +102,7 @@ pub record LookedAtHead (z : Sizes) (call : Call) (fresh : Bool) (before now : T
   pub call_is : now.known.own.call ≡ call
   pub walk : now.known.walk ≡ before.known.walk
   pub trail : Trail before now
+  pub steps_are : trail.steps ≡ loads (head_place z 0) 16 ∷ []
 
 -- From the head the call came to the root. Its first load began it.
 pub record Enters (z : Sizes) (call : Call) (fresh : Bool) (s : Spot) (before now : TreeView) : Type 0 where
@@ -112,6 +114,10 @@ pub record Enters (z : Sizes) (call : Call) (fresh : Bool) (s : Spot) (before no
   pub again : fresh ≡ false → SameCall before.known.own first.known.own
   pub same : SameCall first.known.own now.known.own
   pub trail : Trail before now
+  pub announced : ℕ
+  pub read : ℕ
+  pub steps_are : trail.steps ≡ loads (head_place z 0) 16 ∷ announces announced 1 ∷ confirms (head_place z 0) 16
+      ∷ reads read s.key ∷ []
 
 -- The edge at the side of the key of the record where the call stands led to the record that is announced in the walk word of n.
 pub record IsNear (q : TreePass) (k : ℕ) (s : Spot) (n : Next) : Type 0 where
@@ -129,35 +135,50 @@ pub record IsNear (q : TreePass) (k : ℕ) (s : Spot) (n : Next) : Type 0 where
   -- TAG that was read is known
   pub learnt : tag_bit (word_of n.link) ≡ 1 → IsIn {A = ℕ × ℕ} (side_number n.side, word_of n.link) (slot q s.word).learnt
 
--- why a turn was lost, by its steps
-pub data LostBy (s : Spot) (did : NamedStep → Type 0) : Type 0 where
+-- the kinds of a second load
+abbrev pub IsSecond : ℕ → Type 0
+IsSecond kind = (kind ≡ confirm_step) ⊎ (kind ≡ end_step)
+
+-- why a turn was lost, by its steps, of which the first loads an edge of a record
+pub data LostBy (z : Sizes) (s : Spot) (steps : List NamedStep) : Type 0 where
   -- the first load found INVALID
-  found_invalid : (place w : ℕ) → did (loads place w) → invalid_bit w ≡ 1 → LostBy s did
+  found_invalid : (place w : ℕ) → head_place z 0 < place → IsFront (loads place w ∷ []) steps → invalid_bit w ≡ 1 → LostBy z s steps
   -- the second load found another word than the first one
-  found_other : (place kind first second : ℕ) → did (loads place first)
-      → did (record { kind = kind; place = place; word = second })
-      → second ≢ first → LostBy s did
+  found_other : (place kind first second at number : ℕ) → head_place z 0 < place
+      → IsFront (loads place first ∷ announces at number ∷ record { kind = kind; place = place; word = second } ∷ []) steps
+      → IsSecond kind → invalid_bit first ≡ 0 → second ≢ first → LostBy z s steps
   -- the key of the next record lies outside the bounds
-  outside : (place key : ℕ) → did (reads place key) → (key < s.low) ⊎ (s.high ≤ key) → LostBy s did
+  outside : (place first at number read key : ℕ) → head_place z 0 < place
+      → IsFront (loads place first ∷ announces at number ∷ confirms place first ∷ reads read key ∷ []) steps
+      → invalid_bit first ≡ 0 → (key < s.low) ⊎ (s.high ≤ key) → LostBy z s steps
 
-pub record Loses (s : Spot) (before now : TreeView) : Type 0 where
+pub record Loses (z : Sizes) (s : Spot) (before now : TreeView) : Type 0 where
   pub trail : Trail before now
-  pub cause : LostBy s (λ step. IsIn step trail.steps)
+  pub cause : LostBy z s trail.steps
 
--- the edge has INVALID
-pub record IsBroken (s : Spot) (before now : TreeView) : Type 0 where
+-- the first load of an edge found INVALID
+pub record IsBroken (z : Sizes) (before now : TreeView) : Type 0 where
   pub own : now.known.own ≡ before.known.own
-  pub loses : Loses s before now
+  pub trail : Trail before now
+  pub place : ℕ
+  pub far : head_place z 0 < place
+  pub word : ℕ
+  pub bad : invalid_bit word ≡ 1
+  pub steps_are : trail.steps ≡ loads place word ∷ []
 
 pub record Near (z : Sizes) (k : ℕ) (s : Spot) (n : Next) (before now : TreeView) : Type 0 where
   pub near : IsNear now.known k s n
   pub own : now.known.own ≡ before.known.own
   pub trail : Trail before now
-  pub saw : IsIn (loads (cell_place z (slot now.known s.word).named (2 + side_number n.side)) (word_of n.link)) trail.steps
+  pub far : head_place z 0 < cell_place z (slot now.known s.word).named (2 + side_number n.side)
+  pub announced : ℕ
+  pub number : ℕ
+  pub steps_are : trail.steps ≡ loads (cell_place z (slot now.known s.word).named (2 + side_number n.side)) (word_of n.link)
+      ∷ announces announced number ∷ []
 
 -- the answer of a first load of an edge
 abbrev pub Approaches : Sizes → ℕ → Spot → TreeView → TreeView → Option Next → Type 0
-Approaches z k s before now None = IsBroken s before now
+Approaches z k s before now None = IsBroken z before now
 Approaches z k s before now (Some n) = Near z k s n before now
 
 -- the seek stands where it stood
@@ -169,12 +190,11 @@ pub record StaysThere (s : Spot) (before now : TreeView) : Type 0 where
 pub record LetsAllGo (before now : TreeView) : Type 0 where
   pub empty : AllEmpty now.known
   pub same : SameCall before.known.own now.known.own
-  pub trail : Trail before now
 
 -- The pass went back after an edge that had become another one.
 abbrev pub Backs : Spot → TreeView → TreeView → Down → Type 0
-Backs s before now downs.Moved = StaysThere s before now × Trail before now
-Backs s before now downs.Broken = LetsAllGo before now
+Backs s before now downs.Moved = StaysThere s before now × Clears before now
+Backs s before now downs.Broken = LetsAllGo before now × Clears before now
 Backs s before now (downs.Came next) = ⊥
 Backs s before now (downs.Ended sought) = ⊥
 
@@ -237,74 +257,110 @@ pub record Ends (z : Sizes) (k : ℕ) (sought : Sought) (before now : TreeView) 
   pub last : TreeView
   pub ended : TreeView
   pub until : Trail before last
+  pub then : Trail ended now
   pub own : last.known.own ≡ before.known.own
   pub value : Halves
   pub ends : Ended sought.word (side_number sought.side) (cell_place z (slot now.known now.known.own.at).named
       (2 + side_number sought.side))
       (word_of sought.edge) (slot now.known sought.word).key value last ended
   pub value_is : (slot now.known sought.word).value ≡ value
-  pub then : Trail ended now
   pub still : now.known.own ≡ ended.known.own
 
+-- the place of an edge of the record where a seek stands
+abbrev pub edge_place : Sizes → TreePass → Spot → Next → ℕ
+edge_place z q s n = cell_place z (slot q s.word).named (2 + side_number n.side)
+
 -- the second load of an edge found this word, which isn't the first one
-pub record SecondOther (z : Sizes) (s : Spot) (n : Next) (before : TreeView) (did : NamedStep → Type 0) : Type 0 where
+pub record SecondOther (z : Sizes) (s : Spot) (n : Next) (before : TreeView) (steps : List NamedStep) : Type 0 where
   pub kind : ℕ
   pub second : ℕ
-  pub saw : did (record {
-    kind = kind;
-    place = cell_place z (slot before.known s.word).named
-        (2 + side_number n.side);
-    word = second;
-  })
+  pub saw : IsFront (record { kind = kind; place = edge_place z before.known s n; word = second } ∷ []) steps
+  pub which : IsSecond kind
   pub other : second ≢ word_of n.link
 
 -- the key of the record that was confirmed lies outside the bounds
-pub record KeyOutside (s : Spot) (did : NamedStep → Type 0) : Type 0 where
-  pub place : ℕ
+pub record KeyOutside (z : Sizes) (s : Spot) (n : Next) (before : TreeView) (steps : List NamedStep) : Type 0 where
+  pub read : ℕ
   pub key : ℕ
-  pub saw : did (reads place key)
+  pub saw : IsFront (confirms (edge_place z before.known s n) (word_of n.link) ∷ reads read key ∷ []) steps
   pub outside : (key < s.low) ⊎ (s.high ≤ key)
 
 -- why the second part of a turn was lost
 pub record LosesThere (z : Sizes) (s : Spot) (n : Next) (before now : TreeView) : Type 0 where
   pub trail : Trail before now
-  pub cause : SecondOther z s n before (λ step. IsIn step trail.steps) ⊎ KeyOutside s (λ step. IsIn step trail.steps)
+  pub cause : SecondOther z s n before trail.steps ⊎ KeyOutside z s n before trail.steps
+
+-- the second part of a turn in which the record was confirmed and its key read
+pub record Confirms (place word key : ℕ) (steps : List NamedStep) : Type 0 where
+  pub read : ℕ
+  pub front : IsFront (confirms place word ∷ reads read key ∷ []) steps
+
+-- such a turn whole: it loaded an edge of a record, announced where it leads, and confirmed it
+pub record WentDown (z : Sizes) (key : ℕ) (steps : List NamedStep) : Type 0 where
+  pub place : ℕ
+  pub far : head_place z 0 < place
+  pub first : ℕ
+  pub valid : invalid_bit first ≡ 0
+  pub announced : ℕ
+  pub number : ℕ
+  pub read : ℕ
+  pub front : IsFront (loads place first ∷ announces announced number ∷ confirms place first ∷ reads read key ∷ []) steps
+
+-- the seek stands at a further record, to which it came by these steps
+abbrev pub ComesDown : Sizes → Spot → Spot → TreeView → TreeView → Type 0
+ComesDown z s next before now = (c : ComesFurther s next before now) × WentDown z next.key c.trail.steps
+
+-- it ended by the loads of an edge, and of the key of the leaf
+pub record EndsDown (z : Sizes) (edge key : ℕ) (until then : List NamedStep) : Type 0 where
+  pub place : ℕ
+  pub far : head_place z 0 < place
+  pub announced : ℕ
+  pub number : ℕ
+  pub read : ℕ
+  pub first_is : until ≡ loads place edge ∷ announces announced number ∷ []
+  pub then_is : then ≡ reads read key ∷ []
+
+abbrev pub EndsAtLeaf : Sizes → ℕ → Sought → TreeView → TreeView → Type 0
+EndsAtLeaf z k sought before now = (e : Ends z k sought before now)
+    × EndsDown z (word_of sought.edge) (slot now.known sought.word).key e.until.steps e.then.steps
 
 -- each answer of the second part of a turn, after an edge to an internal record, and after one to a leaf
 abbrev pub CameOn : Sizes → Spot → Next → TreeView → TreeView → Down → Type 0
 CameOn z s n before now downs.Moved = StaysThere s before now × LosesThere z s n before now
 CameOn z s n before now downs.Broken = LetsAllGo before now × LosesThere z s n before now
-CameOn z s n before now (downs.Came next) = ComesFurther s next before now
+CameOn z s n before now (downs.Came next) = (c : ComesFurther s next before now)
+    × Confirms (edge_place z before.known s n) (word_of n.link) next.key c.trail.steps
 CameOn z s n before now (downs.Ended sought) = ⊥
 
 abbrev pub EndedAt : Sizes → ℕ → Spot → Next → TreeView → TreeView → Down → Type 0
 EndedAt z k s n before now downs.Moved = StaysThere s before now × LosesThere z s n before now
 EndedAt z k s n before now downs.Broken = LetsAllGo before now × LosesThere z s n before now
 EndedAt z k s n before now (downs.Came next) = ⊥
-EndedAt z k s n before now (downs.Ended sought) = Ends z k sought before now
+EndedAt z k s n before now (downs.Ended sought) = (e : Ends z k sought before now) × ((e.until.steps ≡ [])
+    × (sought.edge ≡ n.link) × ((read : ℕ) × (e.then.steps ≡ reads read (slot now.known sought.word).key ∷ [])))
 
 -- each answer of a step down
 abbrev pub LookedDown : Sizes → ℕ → Spot → TreeView → TreeView → Down → Type 0
-LookedDown z k s before now downs.Moved = StaysThere s before now × Loses s before now
-LookedDown z k s before now downs.Broken = LetsAllGo before now × Loses s before now
-LookedDown z k s before now (downs.Came next) = ComesFurther s next before now
-LookedDown z k s before now (downs.Ended sought) = Ends z k sought before now
+LookedDown z k s before now downs.Moved = StaysThere s before now × Loses z s before now
+LookedDown z k s before now downs.Broken = LetsAllGo before now × Loses z s before now
+LookedDown z k s before now (downs.Came next) = ComesDown z s next before now
+LookedDown z k s before now (downs.Ended sought) = EndsAtLeaf z k sought before now
 
 -- how a turn that goes on does so
 abbrev pub WentOn : Sizes → Call → Bool → Option Spot → Option Spot → TreeView → TreeView → Type 0
 WentOn z call fresh None None before now = ⊥
 WentOn z call fresh None (Some next) before now = Enters z call fresh next before now
 WentOn z call fresh (Some s) None before now = ⊥
-WentOn z call fresh (Some s) (Some next) before now = ComesFurther s next before now
+WentOn z call fresh (Some s) (Some next) before now = ComesDown z s next before now
 
 -- how a turn that was lost leaves the seek: where it stood, or at the head
-abbrev pub WasLost : Option Spot → Option Spot → TreeView → TreeView → Type 0
-WasLost None next before now = ⊥
-WasLost (Some s) next before now = Loses s before now × ((next ≡ Some s) ⊎ (next ≡ None))
+abbrev pub WasLost : Sizes → Option Spot → Option Spot → TreeView → TreeView → Type 0
+WasLost z None next before now = ⊥
+WasLost z (Some s) next before now = Loses z s before now × ((next ≡ Some s) ⊎ (next ≡ None))
     × SameCall before.known.own now.known.own
 
 -- each answer of a turn
 abbrev pub Turned : Sizes → Seek → Seek → TreeView → TreeView → SeekTurn → Type 0
 Turned z old new before now turns.On = Seeks now.known new × WentOn z old.call old.fresh old.spot new.spot before now
-Turned z old new before now (turns.At sought) = Ends z (key_of old.call) sought before now
-Turned z old new before now turns.Lost = Seeks now.known new × WasLost old.spot new.spot before now
+Turned z old new before now (turns.At sought) = EndsAtLeaf z (key_of old.call) sought before now
+Turned z old new before now turns.Lost = Seeks now.known new × WasLost z old.spot new.spot before now

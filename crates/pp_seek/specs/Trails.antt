@@ -1,8 +1,8 @@
 -- The steps of a turn of a seek.
-use Rattle.std.specs.Prelude.{◌≡◌, ◌⊎◌, ℕ, ◌<◌, ◌≤◌, false, List}
+use Rattle.std.specs.Prelude.{◌≡◌, ◌⊎◌, ℕ, ◌<◌, ◌≤◌, false, List, ◌++◌}
 use Rattle.pp_rule.specs.declared.views.WalkSlot.{WalkSlot}
 use Rattle.pp_rule.specs.Lists.{IsIn}
-use Rattle.pp_rule.specs.Orders.{read_step}
+use Rattle.pp_rule.specs.Orders.{read_step, clear_step}
 use Rattle.pp_base.specs.Named.{NamedStep, Made}
 use Rattle.pp_trees.specs.declared.own.TreeOwn.{TreeOwn}
 use Rattle.pp_trees.specs.Edges.{TreeView, end_step}
@@ -20,6 +20,17 @@ pub record Trail (before now : TreeView) : Type 0 where
   pub steps : List NamedStep
   pub did : Made steps before now
   pub silent : (s : NamedStep) → IsIn s steps → IsSilent s.kind
+
+-- the steps begin with these, and those that follow clear walk words
+pub record IsFront (front steps : List NamedStep) : Type 0 where
+  pub clears : List NamedStep
+  pub is : steps ≡ front ++ clears
+  pub each : (s : NamedStep) → IsIn s clears → s.kind ≡ clear_step
+
+-- The pass cleared walk words.
+pub record Clears (before now : TreeView) : Type 0 where
+  pub trail : Trail before now
+  pub each : (s : NamedStep) → IsIn s trail.steps → s.kind ≡ clear_step
 
 -- a walk word with nothing in it
 pub record IsEmpty (w : WalkSlot) : Type 0 where

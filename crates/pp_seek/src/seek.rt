@@ -3,6 +3,7 @@
 ghost use Rattle.std.specs.Prelude.{◌≡◌, ◌<◌, true, false, None, IfSome};
 ghost use Rattle.pp_model.specs.Calls.{key_of};
 ghost use Rattle.pp_base.specs.Passes.{known, view, Fits, IsSame};
+ghost use Rattle.pp_seek.specs.Trails.{Clears};
 ghost use Rattle.pp_seek.specs.Seeking.{words_of, Seeks, Turned, LetsAllGo};
 
 use crate::keeping::{Words, keep_only};
@@ -154,6 +155,7 @@ impl Seek {
         requires fits { Fits pool.now.table.shared.table_id pool.now.layout pass.old.seat }
         ensures same { IsSame pass.old.seat pass.new.seat }
         ensures lets { LetsAllGo (view pass.old.seat) (view pass.new.seat) }
+        ensures clears { Clears (view pass.old.seat) (view pass.new.seat) }
         ensures purse { pass.new.purse ≡ pass.old.purse }
     {
         let none = Words {

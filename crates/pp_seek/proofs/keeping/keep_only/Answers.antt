@@ -1,6 +1,6 @@
-use Rattle.std.proofs.Common.{◌∙◌}
+use Rattle.std.proofs.Common.{refl, ◌∙◌}
 use Rattle.pp_base.specs.Passes.{view}
-use Rattle.pp_seek.proofs.Letting.{keeps_next}
+use Rattle.pp_seek.proofs.Letting.{keeps_first, keeps_next}
 use Rattle.pp_seek.proofs.keeping.keep_only.Goals as goal
 
 pub loop-word-preserved : goal.loop-word-preserved
@@ -16,4 +16,12 @@ loop-word-preserved c = let i = c.loop-word.invariant in let e = c.keep_word.ens
       (view c.keep_word.new.pass.seat)
       c.loop-word-test.true i.keeps e.keeps;
   purse = e.purse ∙ i.purse;
+}
+
+pub loop-word-init : goal.loop-word-init
+loop-word-init c = record {
+  fits = c.requires.fits;
+  same = record { table_is = refl; number = refl; sizes = refl };
+  keeps = keeps_first c.args.words (view c.args.pass.now.seat);
+  purse = refl;
 }

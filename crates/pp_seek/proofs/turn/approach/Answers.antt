@@ -1,4 +1,4 @@
-use Rattle.std.proofs.Common.{sym, ap, ◌∙◌, subst}
+use Rattle.std.proofs.Common.{sym, ap, ◌∙◌, subst, arith}
 use Rattle.pp_link.specs.Links.{bit}
 use Rattle.pp_base.specs.Passes.{view}
 use Rattle.pp_seek.specs.declared.keeping.Words.{Words}
@@ -7,9 +7,9 @@ use Rattle.pp_seek.proofs.Coming.{broken, near, still_empty}
 use Rattle.pp_seek.proofs.turn.approach.Goals as goal
 
 pub returns-then-invalid-clause-approaches : goal.returns-then-invalid-clause-approaches
-returns-then-invalid-clause-approaches c = broken c.args.spot _ _ c.look-first.result (view c.args.pass.now.seat)
+returns-then-invalid-clause-approaches c = broken c.args.pool.now.layout _ _ c.look-first.result (view c.args.pass.now.seat)
     (view c.look-first.new.pass.seat)
-    c.look-first.ensures.looks (sym c.unpacked-link.ensures.invalid ∙ ap bit (sym c.invalid.ensures ∙ c.if-invalid.true))
+    c.look-first.ensures.looks (omega arith) (sym c.unpacked-link.ensures.invalid ∙ ap bit (sym c.invalid.ensures ∙ c.if-invalid.true))
 
 pub announce-requires-clause-free : goal.announce-requires-clause-free
 announce-requires-clause-free c = (still_empty c.args.spot _ _ c.look-first.result (view c.args.pass.now.seat)

@@ -3,7 +3,8 @@ use Rattle.pp_base.specs.Passes.{view}
 use Rattle.pp_seek.specs.declared.keeping.Words.{Words}
 use Rattle.pp_seek.specs.declared.seek.Spot.{Spot}
 use Rattle.pp_seek.specs.Keeping.{KeepsOnly}
-use Rattle.pp_seek.specs.Seeking.{words_of, ComesFurther}
+use Rattle.pp_seek.specs.Seeking.{words_of, CameOn}
+use Rattle.pp_seek.specs.declared.turn.Down.TheVariants as downs
 use Rattle.pp_seek.proofs.Going.{path_ends}
 use Rattle.pp_seek.proofs.Further.{came_back, goes_back, came_held, comes_further, confirmed_word}
 use Rattle.pp_seek.proofs.turn.come_on.Goals as goal
@@ -39,7 +40,8 @@ returns-then-here-spot-clause-came c = let pass = c.args.pass.now in let first =
 pub returns-clause-came : goal.returns-clause-came
 returns-clause-came c = let pass = c.args.pass.now in let first = c.word-first.result in
     let t = c.come-second.ensures.comes.same c.if-second-first.false in let on = c.further-on.result in
-    subst (λ (x : Spot). ComesFurther c.args.spot x (view pass.seat) (view c.keep_only-2.new.pass.seat))
+    subst (λ (x : Spot). CameOn c.args.pool.now.layout c.args.spot c.args.next (view pass.seat) (view c.keep_only-2.new.pass.seat)
+    (downs.Came x))
     (sym c.further-on.ensures)
     (comes_further c.args.pool.now.layout c.args.key c.args.spot c.args.next first t.0 t.1.0 c.read-here.result _ t.1.1.0
     (view pass.seat)

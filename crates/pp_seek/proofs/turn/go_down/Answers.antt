@@ -8,10 +8,10 @@ use Rattle.pp_seek.proofs.turn.go_down.Goals as goal
 
 pub returns-in_default-clause-looked : goal.returns-in_default-clause-looked
 returns-in_default-clause-looked c = let v = view c.args.pass.now.seat in let v1 = view c.approach.new.pass.seat in
-    lost_first c.args.spot v v1 (view c.keep_only.new.pass.seat)
+    lost_first c.args.pool.now.layout c.args.spot v v1 (view c.keep_only.new.pass.seat)
     (subst (λ (r : Option Next). Approaches c.args.pool.now.layout c.args.key c.args.spot v v1 r) c.in_default.is
     c.approach.ensures.approaches)
-    (lets_go _ v1 (view c.keep_only.new.pass.seat) none_of c.keep_only.ensures.keeps)
+    (lets_go _ v1 (view c.keep_only.new.pass.seat) none_of c.keep_only.ensures.keeps) c.keep_only.ensures.keeps.cleared
 
 pub returns-then-leaf-clause-looked : goal.returns-then-leaf-clause-looked
 returns-then-leaf-clause-looked c = let v = view c.args.pass.now.seat in let v1 = view c.approach.new.pass.seat in
