@@ -35,7 +35,7 @@ use Rattle.pp_seek.specs.Seeking.{IsBroken, LostBy, found_invalid, found_other, 
 use Rattle.pp_seek.specs.Seeking.{SecondOther, KeyOutside, LosesThere, CameOn}
 use Rattle.pp_seek.specs.Seeking.{EndedAt, LookedDown}
 use Rattle.pp_seek.proofs.Staying.{learning_rest}
-use Rattle.pp_seek.proofs.Trailing.{trail_one, trail_both, both_names, front_behind, front_cleared}
+use Rattle.pp_seek.proofs.Trailing.{trail_one, trail_both, both_names, front_behind, front_cleared, rest_by, rest_both}
 use Rattle.pp_seek.proofs.Letting.{call_by, call_on}
 use Rattle.pp_seek.proofs.Going.{SameHeld, word_used, stands_on, learning_held, learning_own, learnt_tag, empty_same}
 use Rattle.pp_seek.proofs.Going.{go_after}
@@ -61,8 +61,8 @@ held_then a b c x e = record {
 -- the first load of an edge
 load_trail : (sd place first : ℕ) (v v1 : TreeView) → Looks sd place first v v1 → Trail v v1
 load_trail sd place first v v1 t = let r = learning_rest has_mark v.known.own.at sd first v.known in
-    trail_one (loads place first) v v1 (inl (omega arith, omega arith)) (plain_one (loads place first)
-    (learning has_mark v.known.own.at sd first v.known) v v1 r.number r.owned t.loaded.made)
+    trail_one (loads place first) (learning has_mark v.known.own.at sd first v.known) v v1 (inl (omega arith, omega arith)) r
+    t.loaded.made
 
 load_names : (sd place first : ℕ) (v v1 : TreeView) (t : Looks sd place first v v1)
     → (load_trail sd place first v v1 t).steps ≡ loads place first ∷ []
@@ -138,9 +138,8 @@ near z k s sd first link word number place v v1 v2 st call side_is five five1 t 
     loaded = load_trail (side_number sd) (cell_place z (slot v.known s.word).named (2 + side_number sd)) first v v1 t
 
     announced : Trail v1 v2
-    announced = trail_one (record { kind = announce_step; place = place; word = number }) v1 v2 (inl (omega arith, omega arith))
-        (plain_one (record { kind = announce_step; place = place; word = number }) (with_walk word
-        (naming number) v1.known) v1 v2 refl refl made)
+    announced = trail_one (record { kind = announce_step; place = place; word = number })
+        (with_walk word (naming number) v1.known) v1 v2 (inl (omega arith, omega arith)) (rest_by v1.known _ _) made
 
     at_low : v.known.own.at < 5
     at_low = subst (λ (x : ℕ). x < 5) (sym st.at) st.low
@@ -264,6 +263,7 @@ down_leaf z k s n v v1 v2 (downs.Ended sought) a c =
         ends = c.0.ends;
         value_is = c.0.value_is;
         still = c.0.still;
+        rest = rest_both v.known v1.known v2.known a.trail.rest c.0.rest;
       },
       record {
         place = p;

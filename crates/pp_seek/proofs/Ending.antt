@@ -29,10 +29,10 @@ use Rattle.pp_seek.specs.declared.seek.Sought.{Sought}
 use Rattle.pp_seek.specs.declared.turn.Next.{Next}
 use Rattle.pp_seek.specs.declared.turn.Down.{Down}
 use Rattle.pp_seek.specs.declared.turn.Down.TheVariants as downs
-use Rattle.pp_seek.specs.Trails.{Trail, Clears, reads}
+use Rattle.pp_seek.specs.Trails.{SameRest, Trail, Clears, reads}
 use Rattle.pp_seek.specs.Keeping.{IsOf}
 use Rattle.pp_seek.specs.Seeking.{words_by, words_of, IsAbove, Over, IsNear, Backs, LosesThere, EndedAt, Ends}
-use Rattle.pp_seek.proofs.Trailing.{trail_none, trail_one, trail_both, front_cleared}
+use Rattle.pp_seek.proofs.Trailing.{trail_none, trail_one, trail_both, front_cleared, rest_by}
 use Rattle.pp_seek.proofs.Letting.{call_by}
 use Rattle.pp_seek.proofs.Going.{word_used, go_after}
 use Rattle.pp_seek.proofs.Further.{step_trail}
@@ -43,7 +43,7 @@ module _ (z : Sizes) (k : ℕ) (s : Spot) (n : Next) (second : ℕ) (v v1 v2 : T
     (other : second ≢ word_of n.link) where
   end_trail : Trail v v1
   end_trail = step_trail end_step (cell_place z (slot v.known s.word).named (2 + side_number n.side)) second v.known v v1
-      (inr refl) refl refl made
+      (inr refl) (rest_by v.known _ _) made
 
   same_known : v1.known ≡ v.known
   same_known = ap (λ (u : TreeView). u.known) made.is
@@ -168,8 +168,9 @@ ends_there z k s above n first key here read_place value equal v v1 v2 near abov
           (subst (λ (x : ℕ). Ended n.word (side_number n.side) (cell_place z (slot v.known s.word).named
           (2 + side_number n.side)) x key value v v1) first_is ended));
       value_is = ap (λ (x : WalkSlot). x.value) there;
-      then = step_trail read_step read_place here v1.known v1 v2 (inl (omega arith, omega arith)) refl refl read;
+      then = step_trail read_step read_place here v1.known v1 v2 (inl (omega arith, omega arith)) (rest_by v1.known _ _) read;
       still = ap (λ (q : TreePass). q.own) known2;
+      rest = subst (SameRest v.known) (sym (known2 ∙ known1)) (rest_by v.known _ _);
     }, (refl, refl, (read_place, ap (λ (x : ℕ). reads read_place x ∷ []) (here_is
     ∙ ap (λ (q : TreePass). (slot q n.word).key) (sym known2)))))
   where

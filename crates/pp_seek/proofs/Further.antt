@@ -32,22 +32,20 @@ use Rattle.pp_seek.specs.declared.turn.Next.{Next}
 use Rattle.pp_seek.specs.declared.turn.Down.{Down}
 use Rattle.pp_seek.specs.declared.turn.Down.TheVariants as downs
 use Rattle.pp_base.specs.Named.{confirms}
-use Rattle.pp_seek.specs.Trails.{IsSilent, Trail, Clears, SameCall, reads}
+use Rattle.pp_seek.specs.Trails.{IsSilent, SameRest, Trail, Clears, SameCall, reads}
 use Rattle.pp_seek.specs.Keeping.{IsOf, KeepsOnly}
 use Rattle.pp_seek.specs.Seeking.{words_by, words_of, Over, LetsAllGo, IsNear}
 use Rattle.pp_seek.specs.Seeking.{Backs, width, further_spot, LosesThere, Confirms, ComesFurther, CameOn}
-use Rattle.pp_seek.proofs.Trailing.{trail_one, trail_both, front_cleared}
+use Rattle.pp_seek.proofs.Trailing.{trail_one, trail_both, front_cleared, rest_by}
 use Rattle.pp_seek.proofs.Letting.{call_by, call_on}
 use Rattle.pp_seek.proofs.Going.{word_used, lets_go, none_of, go_after}
 use Rattle.pp_seek.proofs.Coming.{tag_of}
 
 -- a quiet step, by its name
-unfoldable pub step_trail : (kind place word : ℕ) (known : TreePass) (v w : TreeView) → IsSilent kind → known.number ≡ v.known.number
-    → known.owned ≡ v.known.owned
+unfoldable pub step_trail : (kind place word : ℕ) (known : TreePass) (v w : TreeView) → IsSilent kind → SameRest v.known known
     → MadeQuietStep kind place word word known v w → Trail v w
-step_trail kind place word known v w low number owned made =
-    trail_one (record { kind = kind; place = place; word = word }) v w low (plain_one
-    (record { kind = kind; place = place; word = word }) known v w number owned made)
+step_trail kind place word known v w low rest made =
+    trail_one (record { kind = kind; place = place; word = word }) known v w low rest made
 
 -- The second load found another word: nothing changed, and the pass goes back.
 module _ (z : Sizes) (s : Spot) (n : Next) (second : ℕ) (v v1 v2 : TreeView)
@@ -56,7 +54,7 @@ module _ (z : Sizes) (s : Spot) (n : Next) (second : ℕ) (v v1 v2 : TreeView)
     (other : second ≢ word_of n.link) where
   confirm_trail : Trail v v1
   confirm_trail = step_trail confirm_step (cell_place z (slot v.known s.word).named
-      (2 + side_number n.side)) second v.known v v1 (inl (omega arith, omega arith)) refl refl made
+      (2 + side_number n.side)) second v.known v v1 (inl (omega arith, omega arith)) (rest_by v.known _ _) made
 
   same_known : v1.known ≡ v.known
   same_known = ap (λ (u : TreeView). u.known) made.is
@@ -142,10 +140,10 @@ module _ (z : Sizes) (k : ℕ) (s : Spot) (n : Next) (first leaf key here read_p
 
   confirm_trail2 : Trail v v1
   confirm_trail2 = step_trail confirm_step (cell_place z (slot v.known s.word).named (2 + side_number n.side)) first
-      (came_over n.word (side_number n.side) first leaf key value v.known) v v1 (inl (omega arith, omega arith)) refl refl made
+      (came_over n.word (side_number n.side) first leaf key value v.known) v v1 (inl (omega arith, omega arith)) (rest_by v.known _ _) made
 
   read_trail : Trail v1 v2
-  read_trail = step_trail read_step read_place here v1.known v1 v2 (inl (omega arith, omega arith)) refl refl read
+  read_trail = step_trail read_step read_place here v1.known v1 v2 (inl (omega arith, omega arith)) (rest_by v1.known _ _) read
 
   both_trail : Trail v v2
   both_trail = trail_both v v1 v2 confirm_trail2 read_trail

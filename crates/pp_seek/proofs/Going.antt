@@ -29,20 +29,18 @@ use Rattle.pp_seek.specs.declared.keeping.Words.{Words}
 use Rattle.pp_seek.specs.declared.seek.Above.{Above}
 use Rattle.pp_seek.specs.declared.seek.Spot.{Spot}
 use Rattle.pp_base.specs.Named.{NamedStep, loads, announces, confirms, clears}
-use Rattle.pp_seek.specs.Trails.{IsSilent, Trail, Clears, IsEmpty, SameCall, reads}
+use Rattle.pp_seek.specs.Trails.{IsSilent, SameRest, Trail, Clears, IsEmpty, SameCall, reads}
 use Rattle.pp_seek.specs.Keeping.{IsOf, KeepsOnly}
 use Rattle.pp_seek.specs.Seeking.{words_by, words_of, Over, StandsBut, AtHead, LookedAtHead}
 use Rattle.pp_seek.specs.Seeking.{Enters, StaysThere, LetsAllGo}
-use Rattle.pp_seek.proofs.Trailing.{trail_one, trail_both, both_names, clears_one}
+use Rattle.pp_seek.proofs.Trailing.{trail_one, trail_both, both_names, clears_one, rest_by}
 use Rattle.pp_seek.proofs.Letting.{forget_other, call_by, call_on}
 
 -- a quiet step on a word that is no link's, or a load
-unfoldable pub quiet_trail : (kind place word : ℕ) (known : TreePass) (v w : TreeView) → IsSilent kind → known.number ≡ v.known.number
-    → known.owned ≡ v.known.owned
+unfoldable pub quiet_trail : (kind place word : ℕ) (known : TreePass) (v w : TreeView) → IsSilent kind → SameRest v.known known
     → MadeQuietStep kind place word word known v w → Trail v w
-quiet_trail kind place word known v w low number owned made =
-    trail_one (record { kind = kind; place = place; word = word }) v w low (plain_one
-    (record { kind = kind; place = place; word = word }) known v w number owned made)
+quiet_trail kind place word known v w low rest made =
+    trail_one (record { kind = kind; place = place; word = word }) known v w low rest made
 
 -- the head was loaded
 pub looked_first : (z : Sizes) (call : Call) (fresh : Bool) (n : ℕ) (v w : TreeView) → fresh ≡ true
@@ -53,7 +51,7 @@ looked_first z call fresh n v w is t = let known = ap (λ (u : TreeView). u.know
   again = λ off. absurd (false≢true (sym off ∙ is));
   call_is = ap (λ (q : TreePass). q.own.call) known;
   walk = ap (λ (q : TreePass). q.walk) known;
-  trail = quiet_trail load_step (head_place z 0) n _ v w (inl (omega arith, omega arith)) refl refl t.made;
+  trail = quiet_trail load_step (head_place z 0) n _ v w (inl (omega arith, omega arith)) (rest_by v.known _ _) t.made;
   steps_are = ap (λ (x : ℕ). loads (head_place z 0) x ∷ []) t.root;
 }
 
@@ -66,7 +64,7 @@ looked_again z call fresh n v w is head t = let known = ap (λ (u : TreeView). u
   again = λ _. call_by v.known.own w.known.own (ap (λ (q : TreePass). q.own) known);
   call_is = ap (λ (q : TreePass). q.own.call) known ∙ head.call_is is;
   walk = ap (λ (q : TreePass). q.walk) known;
-  trail = quiet_trail load_step (head_place z 0) n _ v w (inl (omega arith, omega arith)) refl refl t.made;
+  trail = quiet_trail load_step (head_place z 0) n _ v w (inl (omega arith, omega arith)) (rest_by v.known _ _) t.made;
   steps_are = ap (λ (x : ℕ). loads (head_place z 0) x ∷ []) t.root;
 }
 
@@ -99,11 +97,8 @@ enters z call fresh n key place read_place v v1 v2 v3 v4 head look five announce
         going = ap (λ (o : TreeOwn). o.going) own4;
         left = ap (λ (o : TreeOwn). o.left) own4;
       };
-  trail = trail_both v v1 v4 look.trail (trail_both v1 v2 v4 (quiet_trail announce_step place 1 _ v1 v2 (inl
-      (omega arith, omega arith)) refl refl announced)
-      (trail_both v2 v3 v4 (quiet_trail confirm_step (head_place z 0) n _ v2 v3 (inl
-      (omega arith, omega arith)) refl refl came.made)
-      (quiet_trail read_step read_place key v3.known v3 v4 (inl (omega arith, omega arith)) refl refl read)));
+  trail = trail_both v v1 v4 look.trail onward_is;
+  onward = onward_is;
   announced = place;
   read = read_place;
   steps_are = ap (λ (l : List NamedStep). l ++ announces place 1 ∷ confirms (head_place z 0) n ∷ reads read_place key ∷ [])
@@ -112,6 +107,13 @@ enters z call fresh n key place read_place v v1 v2 v3 v4 head look five announce
       came.root;
 }
   where
+    onward_is : Trail v1 v4
+    onward_is = trail_both v1 v2 v4 (quiet_trail announce_step place 1 _ v1 v2 (inl
+      (omega arith, omega arith)) (rest_by v1.known _ _) announced)
+      (trail_both v2 v3 v4 (quiet_trail confirm_step (head_place z 0) n _ v2 v3 (inl
+      (omega arith, omega arith)) (rest_by v2.known _ _) came.made)
+      (quiet_trail read_step read_place key v3.known v3 v4 (inl (omega arith, omega arith)) (rest_by v3.known _ _) read))
+
     known2 : v2.known ≡ with_walk 0 (naming 1) v1.known
     known2 = ap (λ (u : TreeView). u.known) announced.is
 
@@ -238,7 +240,7 @@ back_moved x place v w s five st low out made = let known : w.known ≡ clearing
             (λ other. subst IsEmpty (sym (slot_else v.known w.known x (naming 0) walk j other)) (st.empty j lt never other))) st;
         own = own;
       },
-      clears_one place v w (plain_one (clears place) (clearing forget_word x v.known) v w refl refl made),
+      clears_one place _ v w (rest_by v.known _ _) made,
     )
 
 -- nothing is kept

@@ -19,7 +19,7 @@ use Rattle.pp_trees.specs.Edges.{TreeView}
 use Rattle.pp_seek.specs.declared.keeping.Words.{Words}
 use Rattle.pp_seek.specs.Trails.{IsEmpty, SameCall}
 use Rattle.pp_seek.specs.Keeping.{IsOf, KeepsAt, KeepsOnly}
-use Rattle.pp_seek.proofs.Trailing.{clears_none, clears_one, clears_both, call_same}
+use Rattle.pp_seek.proofs.Trailing.{clears_none, clears_one, clears_both, call_same, rest_by}
 
 pub is_of : (w : Words) (j : ℕ) → IsOf w j ⊎ (IsOf w j → ⊥)
 is_of w j = dite (ℕ_discrete j w.first) (λ a. inl (inl a)) (λ na. dite (ℕ_discrete j w.second) (λ b. inl (inr (inl b)))
@@ -87,7 +87,7 @@ keeps_cleared z w i place v v' pass low never made = let is : v'.known ≡ clear
       kept = λ yes. absurd (never yes);
       others = λ j ne. slot_else v.known v'.known i (naming 0) walk j ne;
       own = inr (never, ap (λ (q : TreePass). q.own) is);
-      cleared = clears_one place v v' (plain_one (clears place) (clearing forget_word i v.known) v v' refl refl made);
+      cleared = clears_one place _ v v' (rest_by v.known _ _) made;
     }
 
 pub keeps_first : (w : Words) (v : TreeView) → KeepsOnly w 0 v v

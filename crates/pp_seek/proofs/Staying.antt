@@ -16,6 +16,7 @@ use Rattle.pp_trees.specs.Searches.{TreePass}
 use Rattle.pp_trees.specs.Sentinels.{has_mark}
 use Rattle.pp_trees.specs.Edges.{TreeView}
 use Rattle.pp_trees.specs.Seeks.{Begins, LooksAgain, ComesToRoot, Looks, ComesTo, found_at, Ended, EndsAt}
+use Rattle.pp_seek.specs.Trails.{SameRest}
 use Rattle.pp_edges.proofs.Staying.{TreeMe, StaysPass, stays, named_same}
 
 by_bool : {X : Type 0} (c : Bool) → (c ≡ false → X) → (c ≡ true → X) → X
@@ -34,21 +35,12 @@ learning_same frozen j side w q = go (frozen w && (slot q j).held)
     go true = named_same q.walk j (record (slot q j) { learnt = (side, w) ∷ (slot q j).learnt }) refl
     go false = refl
 
--- all else of the pass is as it was
-pub record SameRest (q q' : TreePass) : Type 0 where
-  pub number : q'.number ≡ q.number
-  pub sizes : q'.sizes ≡ q.sizes
-  pub owned : q'.owned ≡ q.owned
-  pub retired_are : q'.retired ≡ q.retired
-  pub frontier : q'.frontier ≡ q.frontier
-  pub chains : q'.chains ≡ q.chains
-
 pub learning_rest : (frozen : ℕ → Bool) (j side w : ℕ) (q : TreePass) → SameRest q (learning frozen j side w q)
 learning_rest frozen j side w q = go (frozen w && (slot q j).held)
   where
     go : (c : Bool) → SameRest q (cond c (with_walk j (record (slot q j) { learnt = (side, w) ∷ (slot q j).learnt }) q) q)
-    go true = record { number = refl; sizes = refl; owned = refl; retired_are = refl; frontier = refl; chains = refl }
-    go false = record { number = refl; sizes = refl; owned = refl; retired_are = refl; frontier = refl; chains = refl }
+    go true = record { number = refl; sizes = refl; owned = refl; retired_are = refl; frontier = refl; chains = refl; scan = refl }
+    go false = record { number = refl; sizes = refl; owned = refl; retired_are = refl; frontier = refl; chains = refl; scan = refl }
 
 module _ {v : TreeView} {m : TreeMe} (none : m.1 ≡ []) where
   pub begins_stays : (place : ℕ) (call : Call) (n : ℕ) → Begins place call n v m.0 → StaysPass v m

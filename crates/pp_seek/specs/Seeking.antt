@@ -28,7 +28,7 @@ use Rattle.pp_seek.specs.declared.turn.Next.{Next}
 use Rattle.pp_seek.specs.declared.turn.Down.{Down}
 use Rattle.pp_seek.specs.declared.turn.Down.TheVariants as downs
 use Rattle.pp_rule.specs.Orders.{confirm_step}
-use Rattle.pp_seek.specs.Trails.{Trail, IsFront, Clears, IsEmpty, SameCall, reads}
+use Rattle.pp_seek.specs.Trails.{SameRest, Trail, IsFront, Clears, IsEmpty, SameCall, reads}
 use Rattle.pp_seek.specs.Keeping.{IsOf}
 
 -- the walk words that are in use
@@ -114,6 +114,8 @@ pub record Enters (z : Sizes) (call : Call) (fresh : Bool) (s : Spot) (before no
   pub again : fresh ≡ false → SameCall before.known.own first.known.own
   pub same : SameCall first.known.own now.known.own
   pub trail : Trail before now
+  -- the steps after the first one
+  pub onward : Trail first now
   pub announced : ℕ
   pub read : ℕ
   pub steps_are : trail.steps ≡ loads (head_place z 0) 16 ∷ announces announced 1 ∷ confirms (head_place z 0) 16
@@ -265,6 +267,7 @@ pub record Ends (z : Sizes) (k : ℕ) (sought : Sought) (before now : TreeView) 
       (word_of sought.edge) (slot now.known sought.word).key value last ended
   pub value_is : (slot now.known sought.word).value ≡ value
   pub still : now.known.own ≡ ended.known.own
+  pub rest : SameRest before.known now.known
 
 -- the place of an edge of the record where a seek stands
 abbrev pub edge_place : Sizes → TreePass → Spot → Next → ℕ

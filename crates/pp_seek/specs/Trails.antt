@@ -5,6 +5,7 @@ use Rattle.pp_rule.specs.Lists.{IsIn}
 use Rattle.pp_rule.specs.Orders.{read_step, clear_step}
 use Rattle.pp_base.specs.Named.{NamedStep, Made}
 use Rattle.pp_trees.specs.declared.own.TreeOwn.{TreeOwn}
+use Rattle.pp_trees.specs.Searches.{TreePass}
 use Rattle.pp_trees.specs.Edges.{TreeView, end_step}
 
 -- a load of a key
@@ -15,11 +16,22 @@ reads place word = record { kind = read_step; place = place; word = word }
 abbrev pub IsSilent : ℕ → Type 0
 IsSilent kind = ((2 ≤ kind) × (kind < 9)) ⊎ (kind ≡ end_step)
 
+-- but for its walk words, and for what the tree knows of it, the pass is as it was
+pub record SameRest (q q' : TreePass) : Type 0 where
+  pub number : q'.number ≡ q.number
+  pub sizes : q'.sizes ≡ q.sizes
+  pub owned : q'.owned ≡ q.owned
+  pub retired_are : q'.retired ≡ q.retired
+  pub frontier : q'.frontier ≡ q.frontier
+  pub chains : q'.chains ≡ q.chains
+  pub scan : q'.scan ≡ q.scan
+
 -- The pass made these steps, none of which writes a link.
 pub record Trail (before now : TreeView) : Type 0 where
   pub steps : List NamedStep
   pub did : Made steps before now
   pub silent : (s : NamedStep) → IsIn s steps → IsSilent s.kind
+  pub rest : SameRest before.known now.known
 
 -- the steps begin with these, and those that follow clear walk words
 pub record IsFront (front steps : List NamedStep) : Type 0 where
