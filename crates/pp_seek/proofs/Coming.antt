@@ -1,6 +1,6 @@
 -- What the parts of a turn of a seek come to.
-use Rattle.std.proofs.Common.{◌≡◌, ◌≢◌, inl, ⊎_elim, ℕ, ◌+◌, ◌*◌, ◌/◌, ◌%◌, ◌<◌, ◌≤◌, Bool, true, false, cond}
-use Rattle.std.proofs.Common.{List, [], ◌∷◌, ◌++◌, length}
+use Rattle.std.proofs.Common.{◌≡◌, ◌≢◌, inl, inr, ⊎_elim, ℕ, ◌+◌, ◌*◌, ◌/◌, ◌%◌, ◌<◌, ◌≤◌, Bool, true, false, cond}
+use Rattle.std.proofs.Common.{List, [], ◌∷◌, ◌++◌, length, Option, Some}
 use Rattle.std.proofs.Common.{refl, sym, ap, ◌∙◌, subst, arith}
 use Rattle.std.specs.Prelude.{nat_lt}
 use Rattle.pp_link.specs.declared.layout.Sizes.{Sizes}
@@ -31,9 +31,10 @@ use Rattle.pp_seek.specs.declared.turn.Down.TheVariants as downs
 use Rattle.pp_seek.specs.Trails.{Trail, Clears, IsEmpty, reads}
 use Rattle.pp_seek.specs.Keeping.{IsOf}
 use Rattle.pp_seek.specs.Seeking.{words_of, StandsIn, LetsAllGo, Near}
-use Rattle.pp_seek.specs.Seeking.{IsBroken, LostBy, found_invalid, found_other, outside, Loses}
-use Rattle.pp_seek.specs.Seeking.{SecondOther, KeyOutside, LosesThere, CameOn}
-use Rattle.pp_seek.specs.Seeking.{EndedAt, LookedDown}
+use Rattle.pp_seek.specs.Seeking.{IsBroken, FoundOther, Loses, Moves}
+use Rattle.pp_seek.specs.Seeking.{SecondOther, KeyOutside, LosesThere, MovesThere, CameOn}
+use Rattle.pp_seek.specs.Seeking.{EndedAt, LookedDown, SeeksAt, StaysThere, WasLost}
+use Rattle.pp_model.specs.declared.Call.{Call}
 use Rattle.pp_seek.proofs.Staying.{learning_rest}
 use Rattle.pp_seek.proofs.Trailing.{trail_one, trail_both, both_names, front_behind, front_cleared, rest_by, rest_both}
 use Rattle.pp_seek.proofs.Letting.{call_by, call_on}
@@ -175,25 +176,65 @@ lost_first z s v v1 v2 b l c = (
   go_after v v1 v2 (call_by v.known.own v1.known.own b.own) l,
   record {
     trail = trail_both v v1 v2 b.trail c.trail;
-    cause = found_invalid b.place b.word b.far (front_cleared (loads b.place b.word ∷ []) v v1 v2 b.trail c b.steps_are) b.bad;
+    cause = inl record {
+      place = b.place;
+      far = b.far;
+      word = b.word;
+      bad = b.bad;
+      front = front_cleared (loads b.place b.word ∷ []) v v1 v2 b.trail c b.steps_are;
+    };
   },
 )
 
 -- a turn that was lost later
-lost_later : (z : Sizes) (k : ℕ) (s : Spot) (n : Next) (v v1 v2 : TreeView) → Near z k s n v v1 → LosesThere z s n v1 v2
-    → Loses z s v v2
-lost_later z k s n v v1 v2 a l = let p : ℕ = cell_place z (slot v1.known s.word).named (2 + side_number n.side) in
-    let w : ℕ = word_of n.link in let pre : List NamedStep = loads p w ∷ announces a.announced a.number ∷ [] in record {
-      trail = trail_both v v1 v2 a.trail l.trail;
-      cause = ⊎_elim
-          (λ (o : SecondOther z s n v1 l.trail.steps). found_other p o.kind w o.second a.announced a.number a.far
-          (front_behind pre (record { kind = o.kind; place = p; word = o.second } ∷ []) v v1 v2 a.trail l.trail a.steps_are o.saw)
-          o.which a.near.valid o.other)
-          (λ (o : KeyOutside z s n v1 l.trail.steps). outside p w a.announced a.number o.read o.key a.far
-          (front_behind pre (confirms p w ∷ reads o.read o.key ∷ []) v v1 v2 a.trail l.trail a.steps_are o.saw)
-          a.near.valid o.outside)
-          l.cause;
-    }
+module _ (z : Sizes) (k : ℕ) (s : Spot) (n : Next) (v v1 v2 : TreeView) (a : Near z k s n v v1) where
+  abbrev p : ℕ
+  p = cell_place z (slot v1.known s.word).named (2 + side_number n.side)
+
+  abbrev w : ℕ
+  w = word_of n.link
+
+  abbrev pre : List NamedStep
+  pre = loads p w ∷ announces a.announced a.number ∷ []
+
+  found_second : (l : Trail v1 v2) → SecondOther z s n v1 l.steps → FoundOther z (trail_both v v1 v2 a.trail l).steps
+  found_second l o = record {
+    place = p;
+    far = a.far;
+    kind = o.kind;
+    which = o.which;
+    first = w;
+    valid = a.near.valid;
+    second = o.second;
+    other = o.other;
+    announced = a.announced;
+    number = a.number;
+    front = front_behind pre (record { kind = o.kind; place = p; word = o.second } ∷ []) v v1 v2 a.trail l a.steps_are o.saw;
+  }
+
+  lost_later : LosesThere z s n v1 v2 → Loses z s v v2
+  lost_later l = record {
+    trail = trail_both v v1 v2 a.trail l.trail;
+    cause = ⊎_elim (λ (o : SecondOther z s n v1 l.trail.steps). inr (inl (found_second l.trail o)))
+        (λ (o : KeyOutside z s n v1 l.trail.steps). inr (inr record {
+          place = p;
+          far = a.far;
+          first = w;
+          valid = a.near.valid;
+          announced = a.announced;
+          number = a.number;
+          read = o.read;
+          key = o.key;
+          outside = o.outside;
+          front = front_behind pre (confirms p w ∷ reads o.read o.key ∷ []) v v1 v2 a.trail l.trail a.steps_are o.saw;
+        })) l.cause;
+  }
+
+  moved_later : MovesThere z s n v1 v2 → Moves z s v v2
+  moved_later l = (
+    record { trail = trail_both v v1 v2 a.trail l.0.trail; cause = inr (inl (found_second l.0.trail l.1)) },
+    found_second l.0.trail l.1,
+  )
 
 -- the second part of a turn after the first one
 pub down_inner : (z : Sizes) (k : ℕ) (s : Spot) (n : Next) (v v1 v2 : TreeView) (d : Down) → Near z k s n v v1
@@ -204,7 +245,7 @@ down_inner z k s n v v1 v2 downs.Moved a c = (
     own = c.0.own
         ∙ a.own;
   },
-  lost_later z k s n v v1 v2 a c.1,
+  moved_later z k s n v v1 v2 a c.1,
 )
 down_inner z k s n v v1 v2 downs.Broken a c = (
   go_after v v1 v2 (call_by v.known.own v1.known.own a.own) c.0,
@@ -243,7 +284,7 @@ down_leaf z k s n v v1 v2 downs.Moved a c = (
     own = c.0.own
         ∙ a.own;
   },
-  lost_later z k s n v v1 v2 a c.1,
+  moved_later z k s n v v1 v2 a c.1,
 )
 down_leaf z k s n v v1 v2 downs.Broken a c = (
   go_after v v1 v2 (call_by v.known.own v1.known.own a.own) c.0,
@@ -286,3 +327,13 @@ still_empty s sd place first v v1 st five t j low out = empty_same (slot v.known
     (subst (λ (q : TreePass). SameHeld (slot v.known j) (slot q j)) (sym (ap (λ (u : TreeView). u.known) t.loaded.made.is))
     (learning_held v.known.own.at sd first v.known j five (subst (λ (x : ℕ). x < 5) (sym st.at) st.low)))
     (st.empty j low out (λ e. let five_is = e in omega arith))
+
+-- a turn in which an edge had become another one leaves the seek where it stood
+pub moved_turn : (z : Sizes) (call : Call) (fresh : Bool) (at : Option Spot) (s : Spot) (v w : TreeView) → at ≡ Some s
+    → SeeksAt v.known call fresh at → StaysThere s v w × Moves z s v w → SeeksAt w.known call fresh at × WasLost z at at v w
+moved_turn z call fresh at s v w is seeks m = subst (λ (o : Option Spot). SeeksAt v.known call fresh o
+    → SeeksAt w.known call fresh o × WasLost z o o v w) (sym is)
+    (λ r. (
+      record { pair = r.pair; call_is = ap (λ (o : TreeOwn). o.call) m.0.own ∙ r.call_is; begun = r.begun; stands = m.0.stands },
+      (m.1.0, inl (refl, m.1.1), call_by v.known.own w.known.own m.0.own),
+    )) seeks

@@ -31,7 +31,7 @@ use Rattle.pp_seek.specs.declared.turn.Down.{Down}
 use Rattle.pp_seek.specs.declared.turn.Down.TheVariants as downs
 use Rattle.pp_seek.specs.Trails.{SameRest, Trail, Clears, reads}
 use Rattle.pp_seek.specs.Keeping.{IsOf}
-use Rattle.pp_seek.specs.Seeking.{words_by, words_of, IsAbove, Over, IsNear, Backs, LosesThere, EndedAt, Ends}
+use Rattle.pp_seek.specs.Seeking.{words_by, words_of, IsAbove, Over, IsNear, Backs, LosesThere, SecondOther, MovesThere, EndedAt, Ends}
 use Rattle.pp_seek.proofs.Trailing.{trail_none, trail_one, trail_both, front_cleared, rest_by}
 use Rattle.pp_seek.proofs.Letting.{call_by}
 use Rattle.pp_seek.proofs.Going.{word_used, go_after}
@@ -48,28 +48,28 @@ module _ (z : Sizes) (k : ℕ) (s : Spot) (n : Next) (second : ℕ) (v v1 v2 : T
   same_known : v1.known ≡ v.known
   same_known = ap (λ (u : TreeView). u.known) made.is
 
-  loses : Clears v1 v2 → LosesThere z s n v v2
+  seconds : (c : Clears v1 v2) → SecondOther z s n v (trail_both v v1 v2 end_trail c.trail).steps
   unfolding end_trail step_trail trail_one
-  loses c = record {
-    trail = trail_both v v1 v2 end_trail c.trail;
-    cause = inl record {
+  seconds c = record {
+    kind = end_step;
+    second = second;
+    saw = front_cleared (record {
       kind = end_step;
-      second = second;
-      saw = front_cleared (record {
-        kind = end_step;
-        place = cell_place z (slot v.known s.word).named (2 + side_number n.side);
-        word = second;
-      } ∷ []) v v1 v2 end_trail c refl;
-      which = inr refl;
-      other = other;
-    };
+      place = cell_place z (slot v.known s.word).named (2 + side_number n.side);
+      word = second;
+    } ∷ []) v v1 v2 end_trail c refl;
+    which = inr refl;
+    other = other;
   }
+
+  loses : Clears v1 v2 → MovesThere z s n v v2
+  loses c = (record { trail = trail_both v v1 v2 end_trail c.trail; cause = inl (seconds c) }, seconds c)
 
   pub ended_back : (d : Down) → Backs s v1 v2 d → EndedAt z k s n v v2 d
   ended_back downs.Moved b = (record { stands = b.0.stands; own = b.0.own ∙ ap (λ (q : TreePass). q.own) same_known }, loses b.1)
   ended_back downs.Broken b = (
     go_after v v1 v2 (call_by v.known.own v1.known.own (ap (λ (q : TreePass). q.own) same_known)) b.0,
-    loses b.1,
+    (loses b.1).0,
   )
   ended_back (downs.Came next) b = absurd b
   ended_back (downs.Ended sought) b = absurd b

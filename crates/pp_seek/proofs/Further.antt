@@ -35,7 +35,7 @@ use Rattle.pp_base.specs.Named.{confirms}
 use Rattle.pp_seek.specs.Trails.{IsSilent, SameRest, Trail, Clears, SameCall, reads}
 use Rattle.pp_seek.specs.Keeping.{IsOf, KeepsOnly}
 use Rattle.pp_seek.specs.Seeking.{words_by, words_of, Over, LetsAllGo, IsNear}
-use Rattle.pp_seek.specs.Seeking.{Backs, width, further_spot, LosesThere, Confirms, ComesFurther, CameOn}
+use Rattle.pp_seek.specs.Seeking.{Backs, width, further_spot, LosesThere, SecondOther, MovesThere, Confirms, ComesFurther, CameOn}
 use Rattle.pp_seek.proofs.Trailing.{trail_one, trail_both, front_cleared, rest_by}
 use Rattle.pp_seek.proofs.Letting.{call_by, call_on}
 use Rattle.pp_seek.proofs.Going.{word_used, lets_go, none_of, go_after}
@@ -59,25 +59,28 @@ module _ (z : Sizes) (s : Spot) (n : Next) (second : ℕ) (v v1 v2 : TreeView)
   same_known : v1.known ≡ v.known
   same_known = ap (λ (u : TreeView). u.known) made.is
 
-  loses : Clears v1 v2 → LosesThere z s n v v2
+  seconds : (c : Clears v1 v2) → SecondOther z s n v (trail_both v v1 v2 confirm_trail c.trail).steps
   unfolding confirm_trail step_trail trail_one
-  loses c = record {
-    trail = trail_both v v1 v2 confirm_trail c.trail;
-    cause = inl record {
+  seconds c = record {
+    kind = confirm_step;
+    second = second;
+    saw = front_cleared (record {
       kind = confirm_step;
-      second = second;
-      saw = front_cleared (confirms (cell_place z (slot v.known s.word).named (2 + side_number n.side)) second ∷ [])
-          v v1 v2 confirm_trail c refl;
-      which = inl refl;
-      other = other;
-    };
+      place = cell_place z (slot v.known s.word).named (2 + side_number n.side);
+      word = second;
+    } ∷ []) v v1 v2 confirm_trail c refl;
+    which = inl refl;
+    other = other;
   }
+
+  loses : Clears v1 v2 → MovesThere z s n v v2
+  loses c = (record { trail = trail_both v v1 v2 confirm_trail c.trail; cause = inl (seconds c) }, seconds c)
 
   pub came_back : (d : Down) → Backs s v1 v2 d → CameOn z s n v v2 d
   came_back downs.Moved b = (record { stands = b.0.stands; own = b.0.own ∙ ap (λ (q : TreePass). q.own) same_known }, loses b.1)
   came_back downs.Broken b = (
     go_after v v1 v2 (call_by v.known.own v1.known.own (ap (λ (q : TreePass). q.own) same_known)) b.0,
-    loses b.1,
+    (loses b.1).0,
   )
   came_back (downs.Came next) b = absurd b
   came_back (downs.Ended sought) b = absurd b

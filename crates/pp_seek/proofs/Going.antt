@@ -87,6 +87,7 @@ enters z call fresh n key place read_place v v1 v2 v3 v4 head look five announce
   };
   call_is = ap (λ (o : TreeOwn). o.call) own4 ∙ (ap (λ (q : TreePass). q.own.call) known2 ∙ look.call_is);
   bounds = (refl, refl);
+  root = key_is ∙ ap (λ (s : WalkSlot). s.key) here3;
   first = v1;
   begins = look.begins;
   again = look.again;
@@ -133,9 +134,11 @@ enters z call fresh n key place read_place v v1 v2 v3 v4 head look five announce
         zero_in [] e = absurd (let bad : 0 ≡ 5 = e in omega arith)
         zero_in (x ∷ xs) e = omega arith
 
+    here3 : slot v3.known 0 ≡ holding 1 inf2 came.value
+    here3 = slot_here v2.known v3.known 0 (holding 1 inf2 came.value) (ap (λ (q : TreePass). q.walk) known3) five2
+
     here : slot v4.known 0 ≡ holding 1 inf2 came.value
-    here = ap (λ (q : TreePass). slot q 0) known4 ∙ slot_here v2.known v3.known 0 (holding 1 inf2 came.value) (ap (λ
-        (q : TreePass). q.walk) known3) five2
+    here = ap (λ (q : TreePass). slot q 0) known4 ∙ here3
 
     rest : (j : ℕ) → j ≢ 0 → slot v4.known j ≡ slot v.known j
     rest j ne = ap (λ (q : TreePass). slot q j) known4

@@ -109,6 +109,7 @@ pub record Enters (z : Sizes) (call : Call) (fresh : Bool) (s : Spot) (before no
   pub stands : StandsIn now.known s
   pub call_is : now.known.own.call ≡ call
   pub bounds : (s.low ≡ 0) × (s.high ≡ s.key)
+  pub root : s.key ≡ inf2
   pub first : TreeView
   pub begins : fresh ≡ true → Begins (head_place z 0) call 16 before first
   pub again : fresh ≡ false → SameCall before.known.own first.known.own
@@ -141,22 +142,53 @@ pub record IsNear (q : TreePass) (k : ℕ) (s : Spot) (n : Next) : Type 0 where
 abbrev pub IsSecond : ℕ → Type 0
 IsSecond kind = (kind ≡ confirm_step) ⊎ (kind ≡ end_step)
 
--- why a turn was lost, by its steps, of which the first loads an edge of a record
-pub data LostBy (z : Sizes) (s : Spot) (steps : List NamedStep) : Type 0 where
-  -- the first load found INVALID
-  found_invalid : (place w : ℕ) → head_place z 0 < place → IsFront (loads place w ∷ []) steps → invalid_bit w ≡ 1 → LostBy z s steps
-  -- the second load found another word than the first one
-  found_other : (place kind first second at number : ℕ) → head_place z 0 < place
-      → IsFront (loads place first ∷ announces at number ∷ record { kind = kind; place = place; word = second } ∷ []) steps
-      → IsSecond kind → invalid_bit first ≡ 0 → second ≢ first → LostBy z s steps
-  -- the key of the next record lies outside the bounds
-  outside : (place first at number read key : ℕ) → head_place z 0 < place
-      → IsFront (loads place first ∷ announces at number ∷ confirms place first ∷ reads read key ∷ []) steps
-      → invalid_bit first ≡ 0 → (key < s.low) ⊎ (s.high ≤ key) → LostBy z s steps
+-- the first load of an edge found INVALID
+pub record FoundInvalid (z : Sizes) (steps : List NamedStep) : Type 0 where
+  pub place : ℕ
+  pub far : head_place z 0 < place
+  pub word : ℕ
+  pub bad : invalid_bit word ≡ 1
+  pub front : IsFront (loads place word ∷ []) steps
+
+-- the second load of an edge found another word than the first one
+pub record FoundOther (z : Sizes) (steps : List NamedStep) : Type 0 where
+  pub place : ℕ
+  pub far : head_place z 0 < place
+  pub kind : ℕ
+  pub which : IsSecond kind
+  pub first : ℕ
+  pub valid : invalid_bit first ≡ 0
+  pub second : ℕ
+  pub other : second ≢ first
+  pub announced : ℕ
+  pub number : ℕ
+  pub front : IsFront (loads place first ∷ announces announced number ∷ record { kind = kind; place = place; word = second } ∷ [])
+      steps
+
+-- the record behind an edge was confirmed, and its key lies outside the bounds
+pub record FoundOutside (z : Sizes) (s : Spot) (steps : List NamedStep) : Type 0 where
+  pub place : ℕ
+  pub far : head_place z 0 < place
+  pub first : ℕ
+  pub valid : invalid_bit first ≡ 0
+  pub announced : ℕ
+  pub number : ℕ
+  pub read : ℕ
+  pub key : ℕ
+  pub outside : (key < s.low) ⊎ (s.high ≤ key)
+  pub front : IsFront (loads place first ∷ announces announced number ∷ confirms place first ∷ reads read key ∷ []) steps
+
+-- why a turn was lost, by its steps
+abbrev pub LostBy : Sizes → Spot → List NamedStep → Type 0
+LostBy z s steps = FoundInvalid z steps ⊎ (FoundOther z steps ⊎ FoundOutside z s steps)
 
 pub record Loses (z : Sizes) (s : Spot) (before now : TreeView) : Type 0 where
   pub trail : Trail before now
   pub cause : LostBy z s trail.steps
+
+-- by another word that the second load found
+abbrev pub Moves : Sizes → Spot → TreeView → TreeView → Type 0
+Moves z s before now = (l : Loses z s before now) × FoundOther z l.trail.steps
 
 -- the first load of an edge found INVALID
 pub record IsBroken (z : Sizes) (before now : TreeView) : Type 0 where
@@ -293,6 +325,10 @@ pub record LosesThere (z : Sizes) (s : Spot) (n : Next) (before now : TreeView) 
   pub trail : Trail before now
   pub cause : SecondOther z s n before trail.steps ⊎ KeyOutside z s n before trail.steps
 
+-- by another word
+abbrev pub MovesThere : Sizes → Spot → Next → TreeView → TreeView → Type 0
+MovesThere z s n before now = (l : LosesThere z s n before now) × SecondOther z s n before l.trail.steps
+
 -- the second part of a turn in which the record was confirmed and its key read
 pub record Confirms (place word key : ℕ) (steps : List NamedStep) : Type 0 where
   pub read : ℕ
@@ -329,14 +365,14 @@ EndsAtLeaf z k sought before now = (e : Ends z k sought before now)
 
 -- each answer of the second part of a turn, after an edge to an internal record, and after one to a leaf
 abbrev pub CameOn : Sizes → Spot → Next → TreeView → TreeView → Down → Type 0
-CameOn z s n before now downs.Moved = StaysThere s before now × LosesThere z s n before now
+CameOn z s n before now downs.Moved = StaysThere s before now × MovesThere z s n before now
 CameOn z s n before now downs.Broken = LetsAllGo before now × LosesThere z s n before now
 CameOn z s n before now (downs.Came next) = (c : ComesFurther s next before now)
     × Confirms (edge_place z before.known s n) (word_of n.link) next.key c.trail.steps
 CameOn z s n before now (downs.Ended sought) = ⊥
 
 abbrev pub EndedAt : Sizes → ℕ → Spot → Next → TreeView → TreeView → Down → Type 0
-EndedAt z k s n before now downs.Moved = StaysThere s before now × LosesThere z s n before now
+EndedAt z k s n before now downs.Moved = StaysThere s before now × MovesThere z s n before now
 EndedAt z k s n before now downs.Broken = LetsAllGo before now × LosesThere z s n before now
 EndedAt z k s n before now (downs.Came next) = ⊥
 EndedAt z k s n before now (downs.Ended sought) = (e : Ends z k sought before now) × ((e.until.steps ≡ [])
@@ -344,7 +380,7 @@ EndedAt z k s n before now (downs.Ended sought) = (e : Ends z k sought before no
 
 -- each answer of a step down
 abbrev pub LookedDown : Sizes → ℕ → Spot → TreeView → TreeView → Down → Type 0
-LookedDown z k s before now downs.Moved = StaysThere s before now × Loses z s before now
+LookedDown z k s before now downs.Moved = StaysThere s before now × Moves z s before now
 LookedDown z k s before now downs.Broken = LetsAllGo before now × Loses z s before now
 LookedDown z k s before now (downs.Came next) = ComesDown z s next before now
 LookedDown z k s before now (downs.Ended sought) = EndsAtLeaf z k sought before now
@@ -359,7 +395,7 @@ WentOn z call fresh (Some s) (Some next) before now = ComesDown z s next before 
 -- how a turn that was lost leaves the seek: where it stood, or at the head
 abbrev pub WasLost : Sizes → Option Spot → Option Spot → TreeView → TreeView → Type 0
 WasLost z None next before now = ⊥
-WasLost z (Some s) next before now = Loses z s before now × ((next ≡ Some s) ⊎ (next ≡ None))
+WasLost z (Some s) next before now = (l : Loses z s before now) × (((next ≡ Some s) × FoundOther z l.trail.steps) ⊎ (next ≡ None))
     × SameCall before.known.own now.known.own
 
 -- each answer of a turn
