@@ -139,16 +139,16 @@ module _ (z : MapSizes) (call : Call) where
 
 -- a first load of an edge
 module _ (z : Sizes) (call : Call) (m : Walked) (place w : ℕ) (far : head_place z 0 < place) where
-  abbrev loaded : Walked
+  abbrev pub loaded : Walked
   loaded = record m { word = w; coming = false }
 
-  load_far : tree_next (map_sizes z) call m (loads place w) ≡ loaded
+  pub load_far : tree_next (map_sizes z) call m (loads place w) ≡ loaded
   load_far = ap (λ (b : Bool). by b) (ne_eqb place (head_place z 0) (λ e. omega arith))
     where
       by : Bool → Walked
       by b = record { word = w; coming = false; low = cond b 0 m.low; high = cond b unbounded m.high; struck = m.struck }
 
-  load_lost : (rest : List NamedStep) (k : ℕ) → invalid_bit w ≡ 0 → lost_by (map_sizes z) call loaded rest ≡ k
+  pub load_lost : (rest : List NamedStep) (k : ℕ) → invalid_bit w ≡ 0 → lost_by (map_sizes z) call loaded rest ≡ k
       → lost_by (map_sizes z) call m (loads place w ∷ rest) ≡ k
   unfolding lost_by
   load_lost rest k valid later = let here : one_if (nat_eq (invalid_bit w) 1) ≡ 0 =
@@ -156,7 +156,7 @@ module _ (z : Sizes) (call : Call) (m : Walked) (place w : ℕ) (far : head_plac
       let same : lost_by (map_sizes z) call (tree_next (map_sizes z) call m (loads place w)) rest ≡ k =
       ap (λ (x : Walked). lost_by (map_sizes z) call x rest) load_far ∙ later in omega arith
 
-  load_walked : (rest : List NamedStep) (m' : Walked) → walked (map_sizes z) call loaded rest ≡ m'
+  pub load_walked : (rest : List NamedStep) (m' : Walked) → walked (map_sizes z) call loaded rest ≡ m'
       → walked (map_sizes z) call m (loads place w ∷ rest) ≡ m'
   unfolding walked
   load_walked rest m' later = ap (λ (x : Walked). walked (map_sizes z) call x rest) load_far ∙ later
