@@ -9,6 +9,7 @@ use Rattle.pp_link.specs.Links.{bit, word_of, target, flag_bit, tag_bit, invalid
 use Rattle.pp_link.specs.Places.{cell_place, head_place}
 use Rattle.pp_model.specs.Calls.{key_of}
 use Rattle.pp_rule.specs.Lists.{IsIn}
+use Rattle.pp_rule.specs.States.{IsSmall}
 use Rattle.pp_rule.specs.Orders.{announce_step}
 use Rattle.pp_rule.specs.declared.views.WalkSlot.{WalkSlot}
 use Rattle.pp_rule.specs.Views.{slot, naming}
@@ -109,6 +110,7 @@ near z k s sd first link word number place v v1 v2 st call side_is five five1 t 
     named = ap (λ (x : WalkSlot). x.named) here ∙ (number_is ∙ sym (ap target word_is));
     free = ap (λ (x : WalkSlot). x.held) here;
     valid = ap invalid_bit word_is ∙ valid;
+    small = subst IsSmall (sym word_is) t.loaded.small;
     some = λ e. t.some (sym (ap target word_is) ∙ e);
     unflagged = λ e. ap flag_bit word_is ∙ t.unflagged (subst (λ (w : ℕ). IsEdge w 0) word_is e);
     below_root = λ one left. word_is ∙ t.below_root (ap (λ (j : ℕ). (slot v.known j).named) st.at ∙ (sym spot_same.named

@@ -18,11 +18,11 @@ use Rattle.pp_base.specs.declared.source.Place.TheVariants.{Walk}
 use Rattle.pp_base.specs.Sources.{side_number}
 use Rattle.pp_trees.specs.declared.own.TreeOwn.{TreeOwn}
 use Rattle.pp_trees.specs.declared.own.Passed.{Passed}
-use Rattle.pp_trees.specs.Trees.{side}
+use Rattle.pp_trees.specs.Trees.{side, IsEdge}
 use Rattle.pp_trees.specs.TaggedPaths.{Joined}
 use Rattle.pp_trees.specs.Searches.{TreePass}
 use Rattle.pp_trees.specs.Edges.{TreeView, end_step}
-use Rattle.pp_trees.specs.Seeks.{found_at, ended_pass, Ended}
+use Rattle.pp_trees.specs.Seeks.{found_at, ended_pass, Ended, MayCome}
 use Rattle.pp_seek.specs.declared.seek.Above.{Above}
 use Rattle.pp_seek.specs.declared.seek.Spot.{Spot}
 use Rattle.pp_seek.specs.declared.seek.Sought.{Sought}
@@ -146,11 +146,13 @@ ends_there z k s above n first key here read_place value equal v v1 v2 near abov
         side_is = near.side_is ∙ ap (side k) (near.stands.key_is ∙ (ap (λ (x : WalkSlot). x.key) (sym spot_same)
             ∙ ap (λ (x : ℕ). (slot v2.known x).key) (sym at_is)));
         edge = (near.valid, leaf, near.some);
+        small = near.small;
         leaf = (near.low, ap (λ (x : WalkSlot). x.held) there);
         leaf_is = ap (λ (x : WalkSlot). x.named) there ∙ ap target first_is;
         equal = equal_is ∙ ap (λ (x : ℕ). nat_eq x k) (here_is ∙ ap (λ (q : TreePass). (slot q n.word).key) (sym known2));
         flag = λ one. ap (λ (w : TreeOwn). w.flag) own2 ∙ ap (λ (b : Bool). cond b (side_number n.side) 2) (eq-eqb
             (flag_bit first) 1 (ap flag_bit first_is ∙ one));
+        beside = ap (λ (w : TreeOwn). w.beside) own2 ∙ ap target first_is;
         tag = λ one. subst (λ (x : ℕ). IsIn {A = ℕ × ℕ} (side_number n.side, word_of n.link) (slot v2.known x).learnt) (sym at_is)
             (subst (λ (x : WalkSlot). IsIn {A = ℕ × ℕ} (side_number n.side, word_of n.link) x.learnt) (sym spot_same)
             (near.learnt one));
@@ -220,3 +222,18 @@ ends_there z k s above n first key here read_place value equal v v1 v2 near abov
 
     top_same : slot v2.known above.top ≡ slot v.known above.top
     top_same = else_ above.top (λ e. out (inr (inr (sym e))))
+
+-- the leaf behind the edge may be confirmed
+pub may_end : (z : Sizes) (k : ℕ) (s : Spot) (n : Next) (first : ℕ) (q : TreePass) → IsNear q k s n → first ≡ word_of n.link
+    → leaf_bit (word_of n.link) ≡ 1
+    → MayCome z q n.word (side_number n.side) (cell_place z (slot q s.word).named (2 + side_number n.side)) first 1
+may_end z k s n first q near first_is leaf = record {
+  low = near.low;
+  free = near.free;
+  named = near.named ∙ ap target (sym first_is);
+  at = subst (λ (x : ℕ). x < 5) (sym near.stands.at) near.stands.low;
+  side_is = near.side_is ∙ (ap (λ (x : ℕ). side x s.key) (sym near.call_is) ∙ ap (side (key_of q.own.call)) (near.stands.key_is
+      ∙ ap (λ (x : ℕ). (slot q x).key) (sym near.stands.at)));
+  place_is = ap (λ (x : ℕ). cell_place z (slot q x).named (2 + side_number n.side)) (sym near.stands.at);
+  edge = subst (λ (w : ℕ). IsEdge w 1) (sym first_is) (near.valid, leaf, near.some);
+}

@@ -8,6 +8,7 @@ use Rattle.pp_model.specs.declared.Call.{Call}
 use Rattle.pp_model.specs.Calls.{key_of}
 use Rattle.pp_rule.specs.declared.views.Halves.{Halves}
 use Rattle.pp_rule.specs.Lists.{IsIn}
+use Rattle.pp_rule.specs.States.{IsSmall}
 use Rattle.pp_rule.specs.Views.{slot}
 use Rattle.pp_base.specs.declared.source.Place.TheVariants.{Walk}
 use Rattle.pp_base.specs.Sources.{side_number}
@@ -132,6 +133,7 @@ pub record IsNear (q : TreePass) (k : ℕ) (s : Spot) (n : Next) : Type 0 where
   pub named : (slot q n.word).named ≡ target (word_of n.link)
   pub free : (slot q n.word).held ≡ false
   pub valid : invalid_bit (word_of n.link) ≡ 0
+  pub small : IsSmall (word_of n.link)
   pub some : target (word_of n.link) ≢ 0
   pub unflagged : IsEdge (word_of n.link) 0 → flag_bit (word_of n.link) ≡ 0
   pub below_root : (slot q s.word).named ≡ 1 → side_number n.side ≡ 0 → word_of n.link ≡ 32
@@ -277,11 +279,13 @@ pub record IsSought (q : TreePass) (k : ℕ) (s : Sought) : Type 0 where
   pub parent_held : (slot q q.own.at).held ≡ true
   pub side_is : side_number s.side ≡ side k (slot q q.own.at).key
   pub edge : IsEdge (word_of s.edge) 1
+  pub small : IsSmall (word_of s.edge)
   pub leaf : (s.word < 5) × ((slot q s.word).held ≡ true)
   pub leaf_is : (slot q s.word).named ≡ target (word_of s.edge)
   pub equal : s.equal ≡ nat_eq (slot q s.word).key k
   -- FLAG and TAG that the edge had are known
   pub flag : flag_bit (word_of s.edge) ≡ 1 → q.own.flag ≡ side_number s.side
+  pub beside : q.own.beside ≡ target (word_of s.edge)
   pub tag : tag_bit (word_of s.edge) ≡ 1 → IsIn {A = ℕ × ℕ} (side_number s.side, word_of s.edge) (slot q q.own.at).learnt
 
 -- The seek ended. The step at which it ended settled a reply that changes nothing.

@@ -1,3 +1,4 @@
 pub mod Walked
 pub mod Causes
 pub mod Turning
+pub mod Exchanging

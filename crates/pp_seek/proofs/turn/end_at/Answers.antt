@@ -1,7 +1,7 @@
 use Rattle.std.proofs.Common.{refl, sym, ◌∙◌}
 use Rattle.std.specs.Prelude.{nat_eq}
-use Rattle.pp_base.specs.Passes.{view}
-use Rattle.pp_seek.proofs.Ending.{ended_back, ended_held, ends_there}
+use Rattle.pp_base.specs.Passes.{known, view}
+use Rattle.pp_seek.proofs.Ending.{ended_back, ended_held, ends_there, may_end}
 use Rattle.pp_seek.proofs.turn.end_at.Goals as goal
 
 pub returns-then-second-first-clause-ended : goal.returns-then-second-first-clause-ended
@@ -23,3 +23,7 @@ returns-clause-ended c = let pass = c.args.pass.now in let t = c.end-second.ensu
     (view c.read-here.new.pass.seat) c.requires.near c.in-Some.is
     pass.keeping.pass.five c.word-first.ensures.word c.requires.leaf t.1.1 c.read-here.ensures.read.made
     (c.read-here.ensures.read.key refl) refl
+
+pub end-second-requires-clause-may : goal.end-second-requires-clause-may
+end-second-requires-clause-may c = may_end c.args.pool.now.layout c.args.key c.args.spot c.args.next c.word-first.result
+    (known c.args.pass.now.seat) c.requires.near c.word-first.ensures.word c.requires.leaf
