@@ -105,6 +105,8 @@ pub record Removes (place first : ℕ) (before now : TreeView) : Type 0 where
       (placed_at before.known.own.call (Took (value_of (slot before.known leaf).value)) now ∷ [])
       (flagged_pass (side (key_of before.known.own.call) (slot before.known before.known.own.at).key)
       (target first) before.known) before now
+  -- wherever else the leaf is held, it has the same value
+  pub values : (j : ℕ) → HoldsLeaf before.known j first → (slot before.known j).value ≡ (slot before.known leaf).value
   pub stands : Stands (log_of now.order) now.known.number (placed_by now.known.number now.order)
 
 -- each answer of `flag`

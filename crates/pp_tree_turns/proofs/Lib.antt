@@ -1,3 +1,4 @@
 pub mod Reading
 pub mod Seeks
 pub mod Ends
+pub mod Exchanges

@@ -188,6 +188,7 @@ flags_edge opens z slots id leaf place k first me lone may = exchange_allowed op
                   (effect_told z words g flag_step place first (first + 1) q.own.call took c s known me.0 w at
                   (change_told g.order known entered w at refl q.own.call s refl)
                   (place_told g.order known entered w at refl q.own.call took c refl) made);
+              values = λ _. flagging.same_value z words g q leaf place k first b tr pass is may e;
               other = λ ne. absurd (ne refl);
               stands = λ _. subst (λ (u : TreeView). Stands (log_of u.order) u.known.number (placed_by u.known.number u.order))
                   (sym at)
@@ -200,6 +201,7 @@ flags_edge opens z slots id leaf place k first me lone may = exchange_allowed op
       record {
         small = small;
         same = λ e. absurd (ne e);
+        values = λ e. absurd (ne e);
         other = λ _. made;
         stands = λ e. absurd
             (ne e);

@@ -20,7 +20,7 @@ use Rattle.pp_rule.specs.Lists.{without}
 use Rattle.pp_rule.specs.Orders.{log_of, placed_by}
 use Rattle.pp_rule.specs.declared.views.LoggedStep.{LoggedStep}
 use Rattle.pp_rule.specs.declared.views.WalkSlot.{WalkSlot}
-use Rattle.pp_rule.specs.Views.{value_of, slot}
+use Rattle.pp_rule.specs.Views.{value_of, halves, slot}
 use Rattle.pp_rule.specs.States.{attached, Held}
 use Rattle.pp_rule.specs.Rule.{Base}
 use Rattle.pp_rule.specs.Steps.{entry}
@@ -101,6 +101,10 @@ module _ (z : Sizes) (words : List ℕ) (g : TreeState) (q : TreePass) (leaf pla
 
   held_l : Held z words g.status (slot q leaf)
   held_l = held_of leaf may.leaf_low may.leaf_held
+
+  pub same_value : (j : ℕ) → j < 5 → (slot q j).held ≡ true → target first ≡ (slot q j).named → (slot q j).value ≡ (slot q leaf).value
+  same_value j low on leads = let h = held_of j low on in
+      sym h.value ∙ (ap (λ (n : ℕ). halves (cell_word words z n 1) (cell_word words z n 4)) (sym leads ∙ may.leaf_is) ∙ held_l.value)
 
   link_is : t.link p s ≡ first
   unfolding cell_word

@@ -133,6 +133,9 @@ pub record Flags (leaf place k first found : ℕ) (before now : TreeView) : Type
   pub same : found ≡ first → MadeStep flag_step place found (first + 1) (change_at before.known.own.call now ∷ [])
       (placed_at before.known.own.call (Took (value_of (slot before.known leaf).value)) now ∷ [])
       (flagged_pass (side k (slot before.known before.known.own.at).key) (target first) before.known) before now
+  -- wherever else the leaf is held, it has the same value
+  pub values : found ≡ first → (j : ℕ) → j < 5 → (slot before.known j).held ≡ true → target first ≡ (slot before.known j).named
+      → (slot before.known j).value ≡ (slot before.known leaf).value
   pub other : found ≢ first → MadeQuietStep missed_step place found found before.known before now
   pub stands : found ≡ first → Stands (log_of now.order) now.known.number (placed_by now.known.number now.order)
 
