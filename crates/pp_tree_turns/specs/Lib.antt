@@ -2,3 +2,4 @@ pub mod Walked
 pub mod Causes
 pub mod Turning
 pub mod Exchanging
+pub mod Filling
