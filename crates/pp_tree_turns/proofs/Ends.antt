@@ -143,6 +143,7 @@ module _ (z : Sizes) (call : Call) (k : ℕ) (sought : Sought) (v w : TreeView) 
             (load_lost z call m p edge e.1.far rest 0 e.0.is.edge.0
             (ap (λ (b : Bool). 0 + (one_if (not b) + 0)) (eq-eqb edge edge refl)));
         calm = refl;
+        struck = refl;
       }
 
   -- No call was placed at the loads before the last one, nor after it.

@@ -4,3 +4,4 @@ pub mod Ends
 pub mod Exchanges
 pub mod Written
 pub mod Adding
+pub mod Counting

@@ -147,6 +147,21 @@ tree_over z = record {
       (aside_is z (name_of s) e);
 }
 
+pub aside_next : (z : Sizes) (call : Call) (m : Walked) (s : NamedStep) → is_aside z s ≡ true → tree_next (map_sizes z) call m s ≡ m
+aside_next z call m s e = ⊎_elim (λ (i : IsIdleKind s.kind). idle_next (map_sizes z) call m s i)
+    (λ (x : (s.kind ≡ 11) × (s.place ≤ 17 * z.passes)).
+    ap (λ (k : ℕ). tree_next (map_sizes z) call m (record { kind = k; place = s.place; word = s.word })) x.0) (aside_is z s e)
+
+pub aside_loses : (z : Sizes) (m : Walked) (s : NamedStep) → is_aside z s ≡ true → tree_loses (map_sizes z) m s ≡ false
+aside_loses z m s e = ⊎_elim (λ (i : IsIdleKind s.kind). idle_loses (map_sizes z) m s i)
+    (λ (x : (s.kind ≡ 11) × (s.place ≤ 17 * z.passes)).
+    subst (λ (k : ℕ). tree_loses (map_sizes z) m (record { kind = k; place = s.place; word = s.word }) ≡ false) (sym x.0)
+    (shelf_loses z m s.place s.word x.1)) (aside_is z s e)
+
+pub aside_strikes : (z : Sizes) (s : NamedStep) → is_aside z s ≡ true → tree_strikes s ≡ false
+aside_strikes z s e = ⊎_elim (λ (i : IsIdleKind s.kind). idle_strikes s i)
+    (λ (x : (s.kind ≡ 11) × (s.place ≤ 17 * z.passes)). ap (λ (k : ℕ). nat_eq k 20 || nat_eq k 21) x.0) (aside_is z s e)
+
 -- no call takes effect at steps of these names
 abbrev pub AreQuiet : List NamedStep → Type 0
 AreQuiet names = (s : NamedStep) → IsIn s names → tree_strikes s ≡ false

@@ -247,6 +247,7 @@ module _ (z : Sizes) (call : Call) where
       memory = after;
       ran = front_ran (map_sizes z) call t names after 0 v w e.trail (front_exact names e.trail.steps e.steps_are) walk lost;
       calm = refl;
+      struck = refl;
     },
     (sym e.bounds.0, sym e.bounds.1),
   )
@@ -296,6 +297,7 @@ module _ (z : Sizes) (call : Call) where
               (down_walked z call m d.place d.first d.far d.announced d.number d.read next.key)
               (down_lost z call m d.place d.first d.far d.announced d.number d.read next.key false d.valid b);
           calm = refl;
+          struck = refl;
         },
         (
           ap (λ (n : ℕ). cond (nat_lt (key_of call) next.key) n (next.key + 1)) minds.0
@@ -322,6 +324,7 @@ module _ (z : Sizes) (call : Call) where
             (load_walked z call m f.place f.word f.far [] (record m { word = f.word; coming = false }) (none_walked _))
             (invalid_lost z call m f.place f.word f.far f.bad);
         calm = refl;
+        struck = refl;
       }, tt))
       (λ y. ⊎_elim (λ (f : FoundOther z l.trail.steps). by_other f None tt)
       (λ (f : FoundOutside z s l.trail.steps). (record {
@@ -333,6 +336,7 @@ module _ (z : Sizes) (call : Call) where
             (out_of_bounds m.low m.high f.key (⊎_elim (λ (a : f.key < s.low). inl (let e = minds.0 in omega arith))
             (λ (b : s.high ≤ f.key). inr (let e = minds.1 in omega arith)) f.outside)));
         calm = refl;
+        struck = refl;
       }, tt)) y) l.cause)) which
     where
       m : Walked
@@ -346,6 +350,7 @@ module _ (z : Sizes) (call : Call) where
             f.front (other_walked z call m f.place f.first f.far f.announced f.number f.kind f.second f.which f.other)
             (other_lost z call m f.place f.first f.far f.announced f.number f.kind f.second f.which f.valid f.other);
         calm = refl;
+        struck = refl;
       }, same o is)
         where
           same : (o : Option Spot) → Minds m o → Minds (record m { word = f.first; coming = false }) o

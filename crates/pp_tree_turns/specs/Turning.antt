@@ -7,6 +7,7 @@ use Rattle.pp_calls.specs.Steps.{Stepped, HasOwn, StandsThen}
 use Rattle.pp_shelf.specs.Runs.{steps_made}
 use Rattle.pp_seek.specs.declared.seek.Spot.{Spot}
 use Rattle.pp_trees.specs.Edges.{TreeView}
+use Rattle.pp_turns.specs.Tallies.{memory_of}
 use Rattle.pp_turns.specs.Turns.{Ran}
 use Rattle.pp_tree_turns.specs.Walked.{Walked, tree_reader, TreeTally, moved}
 
@@ -26,3 +27,4 @@ pub record Walks (z : MapSizes) (call : Call) (t : TreeTally) (k : ℕ) (v w : T
   pub memory : Walked
   pub ran : Ran tree_reader z call t (moved t memory k (steps_made v w)) v w
   pub calm : memory.coming ≡ false
+  pub struck : memory.struck ≡ (memory_of t).struck
