@@ -23,7 +23,7 @@ use Rattle.pp_turns.specs.Tallies.{losing, effected, memory_of, counting, tally}
 use Rattle.pp_turns.specs.Turns.{Ran}
 use Rattle.pp_turns.proofs.Tallies.{tally_append, tally_one, tally_later}
 use Rattle.pp_tree_turns.specs.Walked.{Walked, after_key, tree_next, tree_loses, tree_strikes, tree_reader, walked, one_if, lost_by, TreeTally, moved}
-use Rattle.pp_tree_turns.specs.Causes.{flagged_leaf, ReadsValueOf}
+use Rattle.pp_tree_turns.specs.Causes.{flagged_leaf, ReadsValueOf, EndedElsewhere}
 use Rattle.pp_tree_turns.specs.Turning.{Names, Walks}
 use Rattle.pp_tree_turns.specs.Exchanging.{MissesEdge, flags, FlagsLeaf, tags, TagsEdge, AreAside, MissesPath, TakesPath}
 use Rattle.pp_tree_turns.specs.Filling.{AreBefore, Publishes, NotPublished}
@@ -200,3 +200,168 @@ module _ (z : Sizes) (call : Call) where
   tag_walks t found b v w calm is e = walks_after t (one_if b) [] (tags e.place found ∷ []) v w e.names calm
       (none_counted (memory_of t)) (quiet_more (tags e.place found) [] refl quiet_nil) (tag_walk (memory_of t) e.place found)
       (tag_lost (memory_of t) e.place found b is)
+
+-- steps of these names, in two parts with one step between
+pub split_named : (pre : List NamedStep) (s : NamedStep) (post : List NamedStep) (steps : List Step)
+    → map name_of steps ≡ pre ++ s ∷ post
+    → (earlier : List Step) × ((x : Step) × ((later : List Step) × ((steps ≡ earlier ++ x ∷ later) × (map name_of earlier ≡ pre)
+    × (name_of x ≡ s) × (map name_of later ≡ post))))
+split_named [] s post [] e = absurd cc
+split_named [] s post (x ∷ steps) e = ([], (x, (steps, (refl, refl, cc, cc))))
+split_named (p ∷ pre) s post [] e = absurd cc
+split_named (p ∷ pre) s post (y ∷ steps) e = let rest : map name_of steps ≡ pre ++ s ∷ post = cc in
+    let r = split_named pre s post steps rest in let here : name_of y ≡ p = cc in
+    (y ∷ r.0, (r.1.0, (r.1.1.0, (
+      ap (λ (l : List Step). y ∷ l) r.1.1.1.0,
+      ap (λ (n : NamedStep). n ∷ map name_of r.0) here ∙ ap (λ (l : List NamedStep). p ∷ l) r.1.1.1.1,
+      r.1.1.1.2,
+      r.1.1.1.3,
+    ))))
+
+-- The call took effect at one of its steps, and lost no turn by them. The steps after that one are `later`.
+pub record TakesEffect (z : MapSizes) (call : Call) (m m' : Walked) (n : ℕ) (s : NamedStep) (post : List NamedStep) (v w : TreeView)
+    : Type 0 where
+  pub earlier : List Step
+  pub at : Step
+  pub later : List Step
+  pub is : steps_made v w ≡ earlier ++ at ∷ later
+  pub at_is : name_of at ≡ s
+  pub later_are : map name_of later ≡ post
+  pub ran : Ran tree_reader z call (losing m n) (effected m' n n later) v w
+
+module _ (z : Sizes) (call : Call) where
+  at_effect : (m m' : Walked) (n : ℕ) (x : Step) → tree_strikes (name_of x) ≡ true → tree_loses (map_sizes z) m (name_of x) ≡ false
+      → tree_next (map_sizes z) call m (name_of x) ≡ m'
+      → counting tree_reader (map_sizes z) call (losing m n) x ≡ effected m' n n []
+  at_effect m m' n x strikes loses next = let same : n + 0 ≡ n = omega arith in
+      ap (λ (b : Bool). cond b (effected (tree_next (map_sizes z) call m (name_of x)) (n + cond (tree_loses (map_sizes z) m (name_of x)) 1 0) n [])
+      (losing (tree_next (map_sizes z) call m (name_of x)) (n + cond (tree_loses (map_sizes z) m (name_of x)) 1 0))) strikes
+      ∙ (ap (λ (b : Bool). effected (tree_next (map_sizes z) call m (name_of x)) (n + cond b 1 0) n []) loses
+      ∙ (ap (λ (k : ℕ). effected (tree_next (map_sizes z) call m (name_of x)) k n []) same
+      ∙ ap (λ (k : Walked). effected k n n []) next))
+
+  pub strikes_ran : (m m' : Walked) (n : ℕ) (pre : List NamedStep) (s : NamedStep) (post : List NamedStep) (v w : TreeView)
+      → Names (pre ++ s ∷ post) v w → CountsNone z call m pre → tree_strikes s ≡ true → tree_loses (map_sizes z) m s ≡ false
+      → tree_next (map_sizes z) call m s ≡ m' → CountsNone z call m' post
+      → TakesEffect (map_sizes z) call m m' n s post v w
+  unfolding tally
+  strikes_ran m m' n pre s post v w names before strikes loses next behind =
+      let r = split_named pre s post (steps_made v w) names.named in
+      let earlier : List Step = r.0 in let x : Step = r.1.0 in let later : List Step = r.1.1.0 in
+      let is = r.1.1.1.0 in let first = r.1.1.1.1 in let at = r.1.1.1.2 in let last = r.1.1.1.3 in
+      let zero : n + 0 ≡ n = omega arith in
+      let up : tally tree_reader (map_sizes z) call (losing m n) earlier ≡ losing m n =
+      tally_named (map_sizes z) call (losing m n) earlier (subst AreQuiet (sym first) before.quiet)
+      ∙ (ap (λ (l : List NamedStep). losing (walked (map_sizes z) call m l) (n + lost_by (map_sizes z) call m l)) first
+      ∙ (ap (λ (y : Walked). losing y (n + lost_by (map_sizes z) call m pre)) before.walk
+      ∙ (ap (λ (k : ℕ). losing m (n + k)) before.lost ∙ ap (losing m) zero))) in
+      let here : counting tree_reader (map_sizes z) call (losing m n) x ≡ effected m' n n [] =
+      at_effect m m' n x (ap tree_strikes at ∙ strikes) (ap (tree_loses (map_sizes z) m) at ∙ loses)
+      (ap (tree_next (map_sizes z) call m) at ∙ next) in
+      let down : tally tree_reader (map_sizes z) call (effected m' n n []) later ≡ effected m' n n later =
+      tally_named (map_sizes z) call (effected m' n n []) later (subst AreQuiet (sym last) behind.quiet)
+      ∙ (ap (λ (l : List NamedStep). effected (walked (map_sizes z) call m' l) (n + lost_by (map_sizes z) call m' l) n later) last
+      ∙ (ap (λ (y : Walked). effected y (n + lost_by (map_sizes z) call m' post) n later) behind.walk
+      ∙ (ap (λ (k : ℕ). effected m' (n + k) n later) behind.lost ∙ ap (λ (k : ℕ). effected m' k n later) zero))) in record {
+        earlier = earlier;
+        at = x;
+        later = later;
+        is = is;
+        at_is = at;
+        later_are = last;
+        ran = record {
+          stepped = names.stepped;
+          read = ap (tally tree_reader (map_sizes z) call (losing m n)) is
+              ∙ (tally_append tree_reader (map_sizes z) call (losing m n) earlier (x ∷ later)
+              ∙ (ap (λ (t : TreeTally). tally tree_reader (map_sizes z) call t (x ∷ later)) up
+              ∙ (ap (λ (t : TreeTally). tally tree_reader (map_sizes z) call t later) here ∙ down)));
+          stands = names.stands;
+        };
+      }
+
+  -- loads of keys and values
+  two_reads : (m : Walked) (a b : ℕ) (x y : ℕ) → m.coming ≡ false → CountsNone z call m (reads a x ∷ reads b y ∷ [])
+  two_reads m a b x y calm = more_counted z call m (reads a x) (reads b y ∷ []) (read_next z call m a x calm) (read_loses z call m a x calm) refl
+      (more_counted z call m (reads b y) [] (read_next z call m b y calm) (read_loses z call m b y calm) refl (none_counted z call m))
+
+  abbrev pub struck_walk : Walked → Walked
+  struck_walk m = record m { struck = true }
+
+  -- a removal takes effect
+  pub flag_strikes : (m : Walked) (n : ℕ) (s : Sought) (value : ℕ) (v w : TreeView) → m.coming ≡ false → (f : FlagsLeaf z call s value v w)
+      → TakesEffect (map_sizes z) call m (struck_walk m) n (flags f.place (word_of s.edge))
+      (reads (cell_place z (target (word_of s.edge)) 1) f.low ∷ reads (cell_place z (target (word_of s.edge)) 4) f.high ∷ []) v w
+  flag_strikes m n s value v w calm f = strikes_ran m (struck_walk m) n [] (flags f.place (word_of s.edge))
+      (reads (cell_place z (target (word_of s.edge)) 1) f.low ∷ reads (cell_place z (target (word_of s.edge)) 4) f.high ∷ []) v w f.names
+      (none_counted z call m) refl refl refl (two_reads (struck_walk m) _ _ f.low f.high calm)
+
+  -- an insert takes effect
+  pub publish_strikes : (m : Walked) (n : ℕ) (k value : ℕ) (v w : TreeView) → m.coming ≡ false → (f : Publishes k value v w)
+      → TakesEffect (map_sizes z) call m (struck_walk m) n (record { kind = publish_step; place = f.place; word = f.word }) [] v w
+  publish_strikes m n k value v w calm f = strikes_ran m (struck_walk m) n f.before (record { kind = publish_step; place = f.place; word = f.word })
+      [] v w f.names (before_counted z call m f.before calm f.aside) refl refl refl (none_counted z call (struck_walk m))
+
+-- The leaf whose pair was taken, by the steps.
+nat_bool : (b : Bool) (k : ℕ) → (nat_eq k publish_step || nat_eq k flag_step ≡ b) → b ≡ false → nat_eq k flag_step ≡ false
+nat_bool b k is none = by (nat_eq k publish_step) (nat_eq k flag_step) (is ∙ none)
+  where
+    by : (x y : Bool) → x || y ≡ false → y ≡ false
+    by true y e = absurd (false≢true (sym e))
+    by false y e = e
+
+-- no step before the call took effect sets FLAG
+pub flagged_losing : (z : MapSizes) (call : Call) (m m' : Walked) (n n' : ℕ) (xs ys : List Step)
+    → tally tree_reader z call (losing m n) xs ≡ losing m' n' → flagged_leaf (xs ++ ys) ≡ flagged_leaf ys
+unfolding tally flagged_leaf
+flagged_losing z call m m' n n' [] ys e = refl
+flagged_losing z call m m' n n' (x ∷ xs) ys e = by (tree_strikes (name_of x)) refl e
+    (λ f. flagged_losing z call (tree_next z call m (name_of x)) m' (n + cond (tree_loses z m (name_of x)) 1 0) n' xs ys f)
+  where
+    by : (b : Bool) → tree_strikes (name_of x) ≡ b
+        → tally tree_reader z call (cond b (effected (tree_next z call m (name_of x)) (n + cond (tree_loses z m (name_of x)) 1 0) n [])
+        (losing (tree_next z call m (name_of x)) (n + cond (tree_loses z m (name_of x)) 1 0))) xs ≡ losing m' n'
+        → (tally tree_reader z call (losing (tree_next z call m (name_of x)) (n + cond (tree_loses z m (name_of x)) 1 0)) xs ≡ losing m' n'
+        → flagged_leaf (xs ++ ys) ≡ flagged_leaf ys)
+        → cond (nat_eq x.kind flag_step) (target x.word) (flagged_leaf (xs ++ ys)) ≡ flagged_leaf ys
+    by true is f again = absurd (let g = tally_later tree_reader z call (tree_next z call m (name_of x)) (n + cond (tree_loses z m (name_of x)) 1 0) n [] xs in cc)
+    by false is f again = ap (λ (b : Bool). cond b (target x.word) (flagged_leaf (xs ++ ys))) (nat_bool (tree_strikes (name_of x)) x.kind refl is)
+        ∙ again f
+
+pub flagged_here : (x : Step) (steps : List Step) → x.kind ≡ flag_step → flagged_leaf (x ∷ steps) ≡ target x.word
+unfolding flagged_leaf
+flagged_here x steps is = ap (λ (k : ℕ). cond (nat_eq k flag_step) (target x.word) (flagged_leaf steps)) is
+
+-- and it stays so over further steps
+pub flagged_on : (xs ys : List Step) (n : ℕ) → flagged_leaf xs ≡ n → n ≢ 0 → flagged_leaf (xs ++ ys) ≡ n
+unfolding flagged_leaf
+flagged_on [] ys n e some = absurd (some (sym e))
+flagged_on (x ∷ xs) ys n e some = by (nat_eq x.kind flag_step) e (λ f. flagged_on xs ys n f some)
+  where
+    by : (b : Bool) → cond b (target x.word) (flagged_leaf xs) ≡ n → (flagged_leaf xs ≡ n → flagged_leaf (xs ++ ys) ≡ n)
+        → cond b (target x.word) (flagged_leaf (xs ++ ys)) ≡ n
+    by true f again = f
+    by false f again = again f
+
+-- what the first steps after the effect read, they read also before further ones
+pub reads_on : (z : MapSizes) (leaf : ℕ) (xs ys : List Step) → ReadsValueOf z leaf xs → ReadsValueOf z leaf (xs ++ ys)
+reads_on z leaf xs ys r = record {
+  first = r.first;
+  rest = r.rest ++ ys;
+  is = ap (λ (l : List Step). l ++ ys) r.is;
+  kind = r.kind;
+  place = r.place;
+}
+
+pub elsewhere_on : (z : MapSizes) (call : Call) (xs ys : List Step) → EndedElsewhere z call xs → EndedElsewhere z call (xs ++ ys)
+elsewhere_on z call xs ys e = record {
+  earlier = e.earlier;
+  later = e.later ++ ys;
+  ends = e.ends;
+  reads = e.reads;
+  is = ap (λ (l : List Step). l ++ ys) e.is ∙ append_assoc e.earlier (e.ends ∷ e.reads ∷ e.later) ys;
+  ends_kind = e.ends_kind;
+  reads_kind = e.reads_kind;
+  leaf = e.leaf;
+  own = reads_on z e.leaf xs ys e.own;
+  elsewhere = e.elsewhere;
+}

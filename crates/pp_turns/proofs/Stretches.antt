@@ -1,9 +1,8 @@
 -- The steps of a call's turns, one stretch after another.
-use Rattle.std.proofs.Common.{◌≡◌, ℕ, ◌+◌, ◌<◌, Bool, true, cond, List, [], ◌∷◌, ◌++◌, map, length, refl, sym, ap, ◌∙◌}
+use Rattle.std.proofs.Common.{◌≡◌, ℕ, ◌<◌, List, [], ◌∷◌, ◌++◌, map, length, refl, sym, ap, ◌∙◌}
 use Rattle.std.proofs.Common.{subst, length-append, arith}
-use Rattle.std.specs.Prelude.{drop, ◌||◌, nat_eq}
+use Rattle.std.specs.Prelude.{drop}
 use Rattle.std.proofs.Math.Seq.{drop-append_seam}
-use Rattle.pp_link.specs.declared.layout.Sizes.{Sizes}
 use Rattle.pp_model.specs.declared.Call.{Call}
 use Rattle.pp_model.specs.declared.Change.{Change}
 use Rattle.pp_model.specs.declared.Placed.{Placed}
@@ -12,21 +11,19 @@ use Rattle.pp_model.specs.Pass.{MapSizes, seen_first, seen_last}
 use Rattle.pp_rule.specs.declared.views.LoggedStep.{LoggedStep}
 use Rattle.pp_rule.specs.declared.views.PassState.{PassState}
 use Rattle.pp_rule.specs.declared.views.SeatView.{SeatView}
-use Rattle.pp_rule.specs.Causes.{Reader, memory_after, lost_from}
+use Rattle.pp_rule.specs.Causes.{Reader}
 use Rattle.pp_rule.specs.Lists.{IsIn}
-use Rattle.pp_rule.specs.Orders.{log_of, made_by, write_step, clear_step}
+use Rattle.pp_rule.specs.Orders.{log_of, made_by}
 use Rattle.pp_rule.specs.Steps.{MadeStep}
-use Rattle.pp_rule.proofs.Put.{in_first, in_later, in_left}
+use Rattle.pp_rule.proofs.Put.{in_left}
 use Rattle.pp_base.specs.Named.{NamedStep, name_of, Made}
 use Rattle.pp_calls.specs.Steps.{Went, Stepped, HasOwn, StandsThen, TurnMade}
-use Rattle.pp_calls.proofs.Growing.{stepped_none, stepped_one, stepped_both, stepped_made, named_made, went_on, went_stepped, last_of}
+use Rattle.pp_calls.proofs.Growing.{stepped_none, stepped_one, stepped_both, stepped_made, named_made, went_on, went_stepped, last_of, last_on}
 use Rattle.pp_calls.proofs.Remaining.{stands_made}
-use Rattle.pp_shelf.specs.Runs.{map_sizes, steps_made}
-use Rattle.pp_purse.specs.Steps.{is_purse_step}
-use Rattle.pp_turns.specs.Tallies.{Tally, losing, effected, counting, tally, StrikesNone}
+use Rattle.pp_shelf.specs.Runs.{steps_made}
+use Rattle.pp_turns.specs.Tallies.{Tally, losing, counting, tally}
 use Rattle.pp_turns.specs.Turns.{Ran, Since, Waits, SawLast}
-use Rattle.pp_turns.specs.Causes.{is_aside, PassesOver}
-use Rattle.pp_turns.proofs.Tallies.{tally_append, tally_none, tally_one, tally_quiet, tally_later}
+use Rattle.pp_turns.proofs.Tallies.{tally_append, tally_none, tally_one}
 
 module _ {E A W : Type 0} where
   -- the steps since are those that it made
@@ -64,7 +61,7 @@ module _ {E A W : Type 0} where
       front [] ys some_made = absurd (omega arith)
       front (x ∷ xs) ys some_made = refl
 
-own_before : {W : Type 0} (v w : SeatView Change Placed W) → Stepped v w → HasOwn w.order → HasOwn v.order
+pub own_before : {W : Type 0} (v w : SeatView Change Placed W) → Stepped v w → HasOwn w.order → HasOwn v.order
 own_before v w s own x i = own x (subst (λ (o : List (LoggedStep Change Placed)). IsIn x o) (sym s.order.1) (in_left x v.order s.order.0 i))
 
 module _ (r : Reader Call) (z : MapSizes) (call : Call) {W : Type 0} where
@@ -162,57 +159,8 @@ module _ {W : Type 0} where
       ∙ (last_of 0 (steps_made from v) (steps_made v w) long ∙ (ap (seen_last 0) (stepped_steps v w b)
       ∙ b.last (subst (λ (l : List Step). 0 < length l) (stepped_steps v w b) long)))
 
--- Steps aside from the structure count for nothing.
-module _ (r : Reader Call) (z : Sizes) (over : PassesOver r z) (call : Call) where
-  aside_first : (b : Bool) (s : NamedStep) → is_purse_step z s ≡ true → is_aside z s ≡ true
-  aside_first b s is = ap (λ (c : Bool). c || (nat_eq s.kind clear_step || nat_eq s.kind write_step)) is
-
-  strikes_none : (m : r.Memory) (steps : List Step) → ((s : NamedStep) → IsIn s (map name_of steps) → is_aside z s ≡ true)
-      → StrikesNone r (map_sizes z) call m steps
-  strikes_none m [] each = tt
-  strikes_none m (s ∷ steps) each = (
-    over.idles call m s (each (name_of s) (in_first (name_of s) (map name_of steps))),
-    strikes_none (r.next (map_sizes z) call m s) steps (λ n i. each n (in_later n (name_of s) (map name_of steps) i)),
-  )
-
-  loses_none : (m : r.Memory) (steps : List Step) → ((s : NamedStep) → IsIn s (map name_of steps) → is_aside z s ≡ true)
-      → lost_from r (map_sizes z) call m steps ≡ 0
-  unfolding lost_from
-  loses_none m [] each = refl
-  loses_none m (s ∷ steps) each = let m' : r.Memory = r.next (map_sizes z) call m s in
-      let one : Bool → ℕ = λ b. cond b 1 0 in
-      let here : one (r.loses (map_sizes z) call m s) ≡ 0 =
-      ap one (over.keeps call m s (each (name_of s) (in_first (name_of s) (map name_of steps)))) in
-      let rest = loses_none m' steps (λ n i. each n (in_later n (name_of s) (map name_of steps) i)) in omega arith
-
-  module _ {W : Type 0} (names : List NamedStep) (v w : SeatView Change Placed W) (m : Made names v w)
-      (each : (s : NamedStep) → IsIn s names → is_aside z s ≡ true) where
-    all_aside : (s : NamedStep) → IsIn s (map name_of (steps_made v w)) → is_aside z s ≡ true
-    all_aside = subst (λ (l : List NamedStep). (s : NamedStep) → IsIn s l → is_aside z s ≡ true) (sym (steps_named names v w m)) each
-
-    made : (t : Tally r.Memory) → Ran r (map_sizes z) call t (tally r (map_sizes z) call t (steps_made v w)) v w
-    made t = record {
-      stepped = stepped_made names v w m;
-      read = refl;
-      stands = λ own stands. stands_made names v w m own stands;
-    }
-
-    -- before the call took effect
-    pub aside_losing : (memory : r.Memory) (n : ℕ)
-        → Ran r (map_sizes z) call (losing memory n) (losing (memory_after r (map_sizes z) call memory (steps_made v w)) n) v w
-    aside_losing memory n = let none = loses_none memory (steps_made v w) all_aside in
-        let e : n + lost_from r (map_sizes z) call memory (steps_made v w) ≡ n = omega arith in
-        ran_as r (map_sizes z) call (losing memory n) _ _ v w
-        (tally_quiet r (map_sizes z) call memory n (steps_made v w) (strikes_none memory (steps_made v w) all_aside)
-        ∙ ap (losing (memory_after r (map_sizes z) call memory (steps_made v w))) e) (made (losing memory n))
-
-    -- after it
-    pub aside_effected : (memory : r.Memory) (n early : ℕ) (later : List Step)
-        → Ran r (map_sizes z) call (effected memory n early later)
-        (effected (memory_after r (map_sizes z) call memory (steps_made v w)) n early (later ++ steps_made v w)) v w
-    aside_effected memory n early later = let none = loses_none memory (steps_made v w) all_aside in
-        let e : n + lost_from r (map_sizes z) call memory (steps_made v w) ≡ n = omega arith in
-        ran_as r (map_sizes z) call (effected memory n early later) _ _ v w
-        (tally_later r (map_sizes z) call memory n early later (steps_made v w)
-        ∙ ap (λ (k : ℕ). effected (memory_after r (map_sizes z) call memory (steps_made v w)) k early (later ++ steps_made v w)) e)
-        (made (effected memory n early later))
+  -- or where they were, and others came behind them
+  pub saw_on : (from v w : SeatView Change Placed W) → Went from v → SawLast from v → Stepped v w → SawLast from w
+  saw_on from v w a last b = ap (seen_last 0) (steps_both from v w a b ∙ (ap (λ (l : List Step). l ++ steps_made v w) (went_steps from v a)
+      ∙ ap (λ (l : List Step). a.steps ++ l) (stepped_steps v w b)))
+      ∙ last_on from v w a b (ap (seen_last 0) (sym (went_steps from v a)) ∙ last)

@@ -12,11 +12,21 @@ use Rattle.pp_rule.specs.Orders.{made_by, entries_of, write_step, clear_step}
 use Rattle.pp_base.specs.Named.{NamedStep, name_of}
 use Rattle.pp_shelf.specs.Runs.{map_sizes, steps_made}
 use Rattle.pp_purse.specs.Steps.{is_purse_step}
+use Rattle.pp_calls.specs.Steps.{Stepped, HasOwn, StandsThen}
+use Rattle.pp_rule.specs.Lists.{IsIn}
+use Rattle.pp_turns.specs.Turns.{Unplaced}
 use Rattle.pp_turns.specs.Tallies.{Tally, lost_of, later_of}
 
 -- a step at the purse, a clear of a hazard word, or a store in a private record
 abbrev pub is_aside : Sizes → NamedStep → Bool
 is_aside z s = is_purse_step z s || (nat_eq s.kind clear_step || nat_eq s.kind write_step)
+
+-- The pass made such steps, and placed no call.
+pub record Aside {W : Type 0} (z : Sizes) (v w : SeatView Change Placed W) : Type 0 where
+  pub stepped : Stepped v w
+  pub stands : HasOwn w.order → StandsThen v → StandsThen w
+  pub unplaced : Unplaced v w
+  pub each : (s : Step) → IsIn s (steps_made v w) → is_aside z (name_of s) ≡ true
 
 -- No turn is lost at such a step, and no call takes effect at it.
 pub record PassesOver (r : Reader Call) (z : Sizes) : Type 0 where

@@ -1,3 +1,4 @@
 pub mod Tallies
 pub mod Turns
 pub mod Causes
+pub mod Passes
