@@ -1,0 +1,8 @@
+//! A tree over a pool, and its calls turn by turn.
+#![tactic(auto)]
+
+pub mod ending;
+pub mod going;
+pub mod parts;
+
+pub use going::{Next, TreeGoing};
