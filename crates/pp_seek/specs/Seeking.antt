@@ -405,5 +405,5 @@ WasLost z (Some s) next before now = (l : Loses z s before now) × (((next ≡ S
 -- each answer of a turn
 abbrev pub Turned : Sizes → Seek → Seek → TreeView → TreeView → SeekTurn → Type 0
 Turned z old new before now turns.On = Seeks now.known new × WentOn z old.call old.fresh old.spot new.spot before now
-Turned z old new before now (turns.At sought) = EndsAtLeaf z (key_of old.call) sought before now
+Turned z old new before now (turns.At sought) = EndsAtLeaf z (key_of old.call) sought before now × ((s : Spot) × (old.spot ≡ Some s))
 Turned z old new before now turns.Lost = Seeks now.known new × WasLost z old.spot new.spot before now

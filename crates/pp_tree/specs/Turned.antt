@@ -15,7 +15,7 @@ use Rattle.pp_rule.specs.Views.{slot, value_of}
 use Rattle.pp_base.specs.declared.purse.Purse.{Purse}
 use Rattle.pp_base.specs.Passes.{IsAtRest}
 use Rattle.pp_calls.specs.PoolViews.{pool_view}
-use Rattle.pp_calls.specs.Steps.{Stepped, HasOwn, StandsThen}
+use Rattle.pp_calls.specs.Steps.{Stepped, HasOwn, StandsThen, WriteNone}
 use Rattle.pp_shelf.specs.Runs.{map_sizes, steps_made}
 use Rattle.pp_seek.specs.declared.seek.Seek.{Seek}
 use Rattle.pp_seek.specs.declared.seek.Sought.{Sought}
@@ -26,7 +26,8 @@ use Rattle.pp_trees.specs.Edges.{TreeView, end_step}
 use Rattle.pp_trees.specs.Seeks.{found_at}
 use Rattle.pp_turns.specs.Tallies.{memory_of, later_of}
 use Rattle.pp_turns.specs.Turns.{Unplaced, Struck, Replied, SawLast}
-use Rattle.pp_tree_turns.specs.Turning.{Minds}
+use Rattle.pp_tree_turns.specs.Turning.{Minds, Walks}
+use Rattle.pp_tree_turns.specs.Walked.{TreeTally}
 use Rattle.pp_tree_turns.specs.Causes.{tree_meaning}
 use Rattle.pp_tree.specs.declared.going.TreeGoing.{TreeGoing}
 use Rattle.pp_tree.specs.Going.{kind_of, going_of, upper_at, is_look, Counts, IsLosing, HasTaken, Tries, Goes, Carries, IsUnder}
@@ -56,6 +57,15 @@ pub record Part (z : Sizes) (share : ℕ) (Known : TreeView → List ℕ → Typ
   pub answered : IfDone result (λ answer. (from : TreeView) (free : List ℕ) → Known from free → StandsThen w
       → AnswersCall tree_meaning (map_sizes z) g.call g.races (pool_view from free share) (pool_view w p'.free.items share) answer)
 
+-- The pass made steps that count for nothing in any call and write no link, and the same is known of it.
+pub record Idles (z : Sizes) (v w : TreeView) : Type 0 where
+  pub stepped : Stepped v w
+  pub stands : HasOwn w.order → StandsThen v → StandsThen w
+  pub unplaced : Unplaced v w
+  pub known : w.known ≡ v.known
+  pub none : WriteNone (steps_made v w)
+  pub walks : (call : Call) (t : TreeTally) → (memory_of t).coming ≡ false → Walks (map_sizes z) call t 0 v w
+
 -- A turn of it was lost just now, and its seek goes on so.
 pub record HasLost (z : Sizes) (share : ℕ) (g : TreeGoing) (s : Seek) (v : TreeView) (p : Purse) (from : TreeView) (free : List ℕ)
     : Type 0 where
@@ -64,12 +74,13 @@ pub record HasLost (z : Sizes) (share : ℕ) (g : TreeGoing) (s : Seek) (v : Tre
   pub last : SawLast from v
   pub carries : Carries share g.call g.records from v free p
 
--- The last two of the steps are the load at which a seek ended, which found this word, and a load of this key.
+-- Among the steps is the load at which a seek ended, which found this word, and then a load of this key.
 pub record EndedAt (word key : ℕ) (steps : List Step) : Type 0 where
   pub earlier : List Step
   pub ends : Step
   pub reads : Step
-  pub is : steps ≡ earlier ++ ends ∷ reads ∷ []
+  pub after : List Step
+  pub is : steps ≡ earlier ++ ends ∷ reads ∷ after
   pub ends_kind : ends.kind ≡ end_step
   pub ends_word : ends.word ≡ word
   pub reads_kind : reads.kind ≡ read_step

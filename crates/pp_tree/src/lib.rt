@@ -4,5 +4,6 @@
 pub mod ending;
 pub mod going;
 pub mod parts;
+pub mod stored;
 
 pub use going::{Next, TreeGoing};

@@ -1,8 +1,11 @@
 //! The last parts of a call's turns.
 
-ghost use Rattle.std.specs.Prelude.{◌≡◌, ◌<◌, ◌≤◌, ◌^◌, true, false, None};
+ghost use Rattle.std.specs.Prelude.{◌≡◌, ◌<◌, ◌≤◌, ◌^◌, true, false, ℕ, None};
 ghost use Rattle.pp_base.specs.Passes.{known, view, Fits, IsSame, IsAtRest};
+ghost use Rattle.pp_model.specs.Calls.{key_of, Takes};
 ghost use Rattle.pp_model.specs.MapCalls.{IfDone};
+ghost use Rattle.pp_rule.specs.Views.{slot, value_of};
+ghost use Rattle.pp_link.specs.Links.{word_of, flag_bit};
 ghost use Rattle.pp_seek.specs.Seeking.{Seeks as IsSeek};
 ghost use Rattle.pp_turns.specs.Passes.{IsResting};
 ghost use Rattle.pp_tree.specs.Answers.{Ends};
@@ -12,10 +15,12 @@ ghost use Rattle.pp_tree.specs.Turned.{Part, HasLost, HasArrived, HasEnded};
 
 use crate::ending::finish;
 use crate::going::{Next, TreeGoing};
+use crate::stored::stored;
 use pp_base::{Pass, Pool};
 use pp_edges::TreeShape;
 use pp_model::{Answer, Call, Reply, Turned};
-use pp_seek::Seek;
+use pp_seek::{Seek, Sought};
+use pp_tree_turns::other;
 
 /// Whether the call only looks.
 fn looks(call: Call) -> bool
@@ -77,4 +82,195 @@ pub fn lose(going: &mut TreeGoing, pool: &Pool<TreeShape>, pass: &mut Pass<TreeS
     }
     going.next = Next::Seeks(seek);
     Turned::On
+}
+
+/// What a removal does next whose seek ended at the leaf of its key: it sets FLAG, or where the edge has TAG it helps.
+fn open_removal(
+    going: &mut TreeGoing,
+    pool: &Pool<TreeShape>,
+    pass: &mut Pass<TreeShape>,
+    sought: Sought,
+) -> Turned
+    requires fits { Fits pool.now.table.shared.table_id pool.now.layout pass.old.seat }
+    requires ready { HasEnded pool.now.layout going.old (known pass.old.seat) pass.old.purse sought }
+    requires equal { sought.equal ≡ true }
+    requires plain { flag_bit (word_of sought.edge) ≡ 0 }
+    requires takes { Takes going.old.call (key_of going.old.call) (value_of (slot (known pass.old.seat) sought.word).value) }
+    requires unstruck { going.old.struck ≡ false }
+    ensures same { IsSame pass.old.seat pass.new.seat }
+    ensures part { Part pool.now.layout pass.old.share (HasArrived pool.now.layout pass.old.share going.old sought (view pass.old.seat)
+        pass.old.purse) going.old going.new (view pass.old.seat) (view pass.new.seat) pass.new.purse result }
+    ensures resting { IfDone result (λ _. IsResting pass.new) }
+{
+    if sought.edge.tag() {
+        going.next = Next::Tags(sought, sought.side);
+        return Turned::On;
+    }
+    going.next = Next::Flags(sought);
+    Turned::On
+}
+
+/// Comes on from the end of a get's seek: it is answered.
+fn arrive_get(
+    going: &mut TreeGoing,
+    pool: &Pool<TreeShape>,
+    pass: &mut Pass<TreeShape>,
+    sought: Sought,
+) -> Turned
+    requires fits { Fits pool.now.table.shared.table_id pool.now.layout pass.old.seat }
+    requires ready { HasEnded pool.now.layout going.old (known pass.old.seat) pass.old.purse sought }
+    requires gets { is_look going.old.call ≡ true }
+    ensures same { IsSame pass.old.seat pass.new.seat }
+    ensures part { Part pool.now.layout pass.old.share (HasArrived pool.now.layout pass.old.share going.old sought (view pass.old.seat)
+        pass.old.purse) going.old going.new (view pass.old.seat) (view pass.new.seat) pass.new.purse result }
+    ensures resting { IfDone result (λ _. IsResting pass.new) }
+{
+    if !sought.equal {
+        return end(going, pool, pass, Answer::Said(Reply::Absent));
+    }
+    if sought.edge.flag() {
+        return end(going, pool, pass, Answer::Said(Reply::Absent));
+    }
+    let value = stored(pool, pass, sought.word);
+    end(going, pool, pass, Answer::Said(Reply::Value(value)))
+}
+
+/// Comes on from the end of an insert's seek: where the key is there, it is answered; where the edge has a bit it helps, and
+/// else its records are to be published.
+fn arrive_insert(
+    going: &mut TreeGoing,
+    pool: &Pool<TreeShape>,
+    pass: &mut Pass<TreeShape>,
+    sought: Sought,
+) -> Turned
+    requires fits { Fits pool.now.table.shared.table_id pool.now.layout pass.old.seat }
+    requires ready { HasEnded pool.now.layout going.old (known pass.old.seat) pass.old.purse sought }
+    requires inserts { (k v : ℕ) × (going.old.call ≡ Call.Insert k v) }
+    requires unstruck { going.old.struck ≡ false }
+    ensures same { IsSame pass.old.seat pass.new.seat }
+    ensures part { Part pool.now.layout pass.old.share (HasArrived pool.now.layout pass.old.share going.old sought (view pass.old.seat)
+        pass.old.purse) going.old going.new (view pass.old.seat) (view pass.new.seat) pass.new.purse result }
+    ensures resting { IfDone result (λ _. IsResting pass.new) }
+{
+    if sought.edge.flag() {
+        going.next = Next::Tags(sought, other(sought.side));
+        return Turned::On;
+    }
+    if sought.equal {
+        let value = stored(pool, pass, sought.word);
+        return end(going, pool, pass, Answer::Said(Reply::Held(value)));
+    }
+    if sought.edge.tag() {
+        going.next = Next::Tags(sought, sought.side);
+        return Turned::On;
+    }
+    going.next = Next::Publishes(sought);
+    Turned::On
+}
+
+/// Comes on from the end of a remove's seek.
+fn arrive_remove(
+    going: &mut TreeGoing,
+    pool: &Pool<TreeShape>,
+    pass: &mut Pass<TreeShape>,
+    sought: Sought,
+) -> Turned
+    requires fits { Fits pool.now.table.shared.table_id pool.now.layout pass.old.seat }
+    requires ready { HasEnded pool.now.layout going.old (known pass.old.seat) pass.old.purse sought }
+    requires removes { (k : ℕ) × (going.old.call ≡ Call.Remove k) }
+    requires unstruck { going.old.struck ≡ false }
+    ensures same { IsSame pass.old.seat pass.new.seat }
+    ensures part { Part pool.now.layout pass.old.share (HasArrived pool.now.layout pass.old.share going.old sought (view pass.old.seat)
+        pass.old.purse) going.old going.new (view pass.old.seat) (view pass.new.seat) pass.new.purse result }
+    ensures resting { IfDone result (λ _. IsResting pass.new) }
+{
+    if !sought.equal {
+        return end(going, pool, pass, Answer::Said(Reply::Absent));
+    }
+    if sought.edge.flag() {
+        return end(going, pool, pass, Answer::Said(Reply::Absent));
+    }
+    open_removal(going, pool, pass, sought)
+}
+
+/// Comes on from the end of a cut's seek, which takes the pair only with this value.
+fn arrive_cut(
+    going: &mut TreeGoing,
+    pool: &Pool<TreeShape>,
+    pass: &mut Pass<TreeShape>,
+    sought: Sought,
+    wanted: u128,
+) -> Turned
+    requires fits { Fits pool.now.table.shared.table_id pool.now.layout pass.old.seat }
+    requires ready { HasEnded pool.now.layout going.old (known pass.old.seat) pass.old.purse sought }
+    requires cuts { (k : ℕ) × (going.old.call ≡ Call.Cut k wanted) }
+    requires unstruck { going.old.struck ≡ false }
+    ensures same { IsSame pass.old.seat pass.new.seat }
+    ensures part { Part pool.now.layout pass.old.share (HasArrived pool.now.layout pass.old.share going.old sought (view pass.old.seat)
+        pass.old.purse) going.old going.new (view pass.old.seat) (view pass.new.seat) pass.new.purse result }
+    ensures resting { IfDone result (λ _. IsResting pass.new) }
+{
+    if !sought.equal {
+        return end(going, pool, pass, Answer::Said(Reply::Absent));
+    }
+    if sought.edge.flag() {
+        return end(going, pool, pass, Answer::Said(Reply::Absent));
+    }
+    let value = stored(pool, pass, sought.word);
+    if value != wanted {
+        return end(going, pool, pass, Answer::Said(Reply::Other(value)));
+    }
+    open_removal(going, pool, pass, sought)
+}
+
+/// Comes on from the end of the seek of a removal that has taken effect: where the leaf is no longer there with FLAG, it says
+/// what it took.
+fn arrive_after(
+    going: &mut TreeGoing,
+    pool: &Pool<TreeShape>,
+    pass: &mut Pass<TreeShape>,
+    sought: Sought,
+) -> Turned
+    requires fits { Fits pool.now.table.shared.table_id pool.now.layout pass.old.seat }
+    requires ready { HasEnded pool.now.layout going.old (known pass.old.seat) pass.old.purse sought }
+    requires struck { going.old.struck ≡ true }
+    ensures same { IsSame pass.old.seat pass.new.seat }
+    ensures part { Part pool.now.layout pass.old.share (HasArrived pool.now.layout pass.old.share going.old sought (view pass.old.seat)
+        pass.old.purse) going.old going.new (view pass.old.seat) (view pass.new.seat) pass.new.purse result }
+    ensures resting { IfDone result (λ _. IsResting pass.new) }
+{
+    let value = going.taken;
+    if !sought.equal {
+        return end(going, pool, pass, Answer::Said(Reply::Took(value)));
+    }
+    if !sought.edge.flag() {
+        return end(going, pool, pass, Answer::Said(Reply::Took(value)));
+    }
+    going.next = Next::Tags(sought, other(sought.side));
+    Turned::On
+}
+
+/// Comes on from the end of a call's seek.
+pub fn arrive(
+    going: &mut TreeGoing,
+    pool: &Pool<TreeShape>,
+    pass: &mut Pass<TreeShape>,
+    sought: Sought,
+) -> Turned
+    requires fits { Fits pool.now.table.shared.table_id pool.now.layout pass.old.seat }
+    requires ready { HasEnded pool.now.layout going.old (known pass.old.seat) pass.old.purse sought }
+    ensures same { IsSame pass.old.seat pass.new.seat }
+    ensures part { Part pool.now.layout pass.old.share (HasArrived pool.now.layout pass.old.share going.old sought (view pass.old.seat)
+        pass.old.purse) going.old going.new (view pass.old.seat) (view pass.new.seat) pass.new.purse result }
+    ensures resting { IfDone result (λ _. IsResting pass.new) }
+{
+    if going.struck {
+        return arrive_after(going, pool, pass, sought);
+    }
+    match going.call {
+        Call::Get { key: _ } => arrive_get(going, pool, pass, sought),
+        Call::Insert { key: _, value: _ } => arrive_insert(going, pool, pass, sought),
+        Call::Remove { key: _ } => arrive_remove(going, pool, pass, sought),
+        Call::Cut { key: _, value } => arrive_cut(going, pool, pass, sought, value),
+    }
 }

@@ -280,7 +280,7 @@ module _ (z : Sizes) (call : Call) where
       }
 
   -- loads of keys and values
-  two_reads : (m : Walked) (a b : ℕ) (x y : ℕ) → m.coming ≡ false → CountsNone z call m (reads a x ∷ reads b y ∷ [])
+  pub two_reads : (m : Walked) (a b : ℕ) (x y : ℕ) → m.coming ≡ false → CountsNone z call m (reads a x ∷ reads b y ∷ [])
   two_reads m a b x y calm = more_counted z call m (reads a x) (reads b y ∷ []) (read_next z call m a x calm) (read_loses z call m a x calm) refl
       (more_counted z call m (reads b y) [] (read_next z call m b y calm) (read_loses z call m b y calm) refl (none_counted z call m))
 
@@ -364,4 +364,14 @@ elsewhere_on z call xs ys e = record {
   leaf = e.leaf;
   own = reads_on z e.leaf xs ys e.own;
   elsewhere = e.elsewhere;
+}
+
+-- steps that count nothing
+pub none_walks : (z : Sizes) (call : Call) (t : TreeTally) (names : List NamedStep) (v w : TreeView) → Names names v w
+    → (memory_of t).coming ≡ false → CountsNone z call (memory_of t) names → Walks (map_sizes z) call t 0 v w
+none_walks z call t names v w a calm c = record {
+  memory = memory_of t;
+  ran = names_ran (map_sizes z) call t names (memory_of t) 0 v w a c.quiet c.walk c.lost;
+  calm = calm;
+  struck = refl;
 }
