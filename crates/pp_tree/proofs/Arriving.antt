@@ -33,6 +33,7 @@ use Rattle.pp_base.specs.Sources.{side_number}
 use Rattle.pp_calls.specs.Steps.{Stepped}
 use Rattle.pp_calls.proofs.Growing.{begins_long, stepped_none}
 use Rattle.pp_shelf.specs.Runs.{map_sizes, steps_made}
+use Rattle.pp_seek.specs.declared.seek.Spot.{Spot}
 use Rattle.pp_seek.specs.declared.seek.Sought.{Sought}
 use Rattle.pp_seek.specs.Seeking.{IsSought}
 use Rattle.pp_trees.specs.Trees.{IsRight, across}
@@ -52,9 +53,10 @@ use Rattle.pp_tree.specs.declared.going.TreeGoing.{TreeGoing}
 use Rattle.pp_tree.specs.declared.going.Next.{Next}
 use Rattle.pp_tree.specs.declared.going.Next.TheVariants.{Publishes, Flags, Tags, Over}
 use Rattle.pp_tree.specs.Purses.{TwoRecords, HasOut}
-use Rattle.pp_tree.specs.Going.{is_look, kind_of, Counts, IsLosing, HasTaken, Tries, Goes, TakesWith, Stands, Carries, IsUnder}
+use Rattle.pp_tree.specs.Going.{is_look, kind_of, spot_of, upper_at, Counts, IsLosing, HasTaken, Tries, Goes, TakesWith, Stands, Carries, IsUnder}
 use Rattle.pp_tree.specs.Answers.{SaysBy, SaysStruck, Ends}
 use Rattle.pp_tree.specs.Turned.{SameGoing, Part, EndedAt, found_by, Idles, HasArrived, HasEnded}
+use Rattle.pp_tree.proofs.Losing.{ends_high}
 use Rattle.pp_tree.proofs.Lasting.{counts_on, losing_on, taken_on, carries_on}
 
 -- what was right at a place stays so
@@ -184,7 +186,7 @@ module _ (z : Sizes) (share : ℕ) (g : TreeGoing) (s : Sought) (v : TreeView) (
         same = over_same g g' over;
         struck = ap (λ x. x.struck) over ∙ (off ∙ sym plain);
         advances = tt;
-        high = tt;
+        high = ends_high g' (ap (λ x. x.next) over);
         goes_on = tt;
         answered = λ from free k stands. let l = k.losing_still off in
             let lost : l.lost ≡ g.lost = sym (ap (λ (y : TreeTally). lost_of y) l.is) ∙ k.counts.lost_is in
@@ -238,7 +240,7 @@ module _ (z : Sizes) (share : ℕ) (g : TreeGoing) (s : Sought) (v : TreeView) (
         same = over_same g g' over;
         struck = ap (λ x. x.struck) over ∙ on;
         advances = tt;
-        high = tt;
+        high = ends_high g' (ap (λ x. x.next) over);
         goes_on = tt;
         answered = λ from free k stands. let h = k.taken on in
             let x = ended_elsewhere k.counts.tally from h (k.ended on)
@@ -281,7 +283,7 @@ module _ (z : Sizes) (share : ℕ) (g : TreeGoing) (s : Sought) (v : TreeView) (
     goes n = record { call = ended.call; going = going_is g.struck refl }
 
     -- It comes to its next kind of turn.
-    pub arrived_opens : (n : Next) → 0 < kind_of n → kind_of n ≤ 3
+    pub arrived_opens : (n : Next) → 0 < kind_of n → spot_of n ≡ None
         → ((from : TreeView) (free : List ℕ) → HasArrived z share g s v p from free → Stands z (record g { next = n }) n from v)
         → Part z share (HasArrived z share g s v p) g (record g { next = n }) v v p On
     arrived_opens n later high each = record {
@@ -290,8 +292,9 @@ module _ (z : Sizes) (share : ℕ) (g : TreeGoing) (s : Sought) (v : TreeView) (
       same = record { call = refl; races = refl; struck = refl };
       struck = tt;
       advances = inr (refl, let at = ended.seeks in omega arith);
-      high = high;
+      high = subst (λ (o : Option Spot). upper_at o ≤ 2 ^ 64) (sym high) (omega arith);
       goes_on = λ from free k. record {
+        pair = ended.pair;
         below = ended.below;
         rest = ended.rest;
         looks = λ is. (ended.looks is).1;
@@ -304,14 +307,14 @@ module _ (z : Sizes) (share : ℕ) (g : TreeGoing) (s : Sought) (v : TreeView) (
     -- an edge with TAG alone is tagged again
     pub opens_again : is_look g.call ≡ false → g.struck ≡ false → tag_bit (word_of s.edge) ≡ 1
         → Part z share (HasArrived z share g s v p) g (record g { next = Tags s s.side }) v v p On
-    opens_again change off tag = arrived_opens (Tags s s.side) (omega arith) (omega arith)
+    opens_again change off tag = arrived_opens (Tags s s.side) (omega arith) refl
         (λ from free k. (opened_tries (Tags s s.side) from free k opens, (goes (Tags s s.side), (change,
         (tags_again v.known (key_of g.call) s ended.sought tag, λ on. absurd (false≢true (sym off ∙ on)))))))
 
     -- beside an edge with FLAG the other one is tagged
     pub opens_beside : (side : Side) → is_look g.call ≡ false → side_number side ≡ across (side_number s.side) → flag_bit (word_of s.edge) ≡ 1
         → Part z share (HasArrived z share g s v p) g (record g { next = Tags s side }) v v p On
-    opens_beside side change is flag = arrived_opens (Tags s side) (omega arith) (omega arith)
+    opens_beside side change is flag = arrived_opens (Tags s side) (omega arith) refl
         (λ from free k. (opened_tries (Tags s side) from free k opens, (goes (Tags s side), (change,
         (tags_beside v.known (key_of g.call) s side ended.sought flag is,
         λ on. with_it from free k on (target (word_of s.edge)) (flagged_leaf (steps_made from v)) refl refl)))))
@@ -414,7 +417,7 @@ module _ (z : Sizes) (share : ℕ) (g : TreeGoing) (s : Sought) (v : TreeView) (
       let opens : g.struck ≡ false → changes (reply_at g.call (found_by g s v.known)) ≡ true =
       λ _. takes_changes g.call (key_of g.call) (value_of (slot v.known s.word).value) (found_by g s v.known) takes
       (found_value g s v.known ended.sought equal flag) in
-      arrived_opens z share g s v p ended opens (Flags s) (omega arith) (omega arith)
+      arrived_opens z share g s v p ended opens (Flags s) (omega arith) refl
       (λ from free k. (opened_tries z share g s v p (Flags s) from free k opens, (goes z share g s v p ended opens (Flags s), (off,
       (takes_look g.call (key_of g.call) (value_of (slot v.known s.word).value) takes, record {
         sought = subst (λ (c : Call). IsSought v.known (key_of c) s) (sym ended.call) ended.sought;
@@ -440,7 +443,7 @@ module _ (z : Sizes) (share : ℕ) (g : TreeGoing) (s : Sought) (v : TreeView) (
       let none : found_by g s v.known ≡ None = found_other g s v.known ended.sought other in
       let opens : g.struck ≡ false → changes (reply_at g.call (found_by g s v.known)) ≡ true =
       λ _. insert_added g.call k x (found_by g s v.known) is none in
-      arrived_opens z share g s v p ended opens (Publishes s) (omega arith) (omega arith)
+      arrived_opens z share g s v p ended opens (Publishes s) (omega arith) refl
       (λ from free a. (opened_tries z share g s v p (Publishes s) from free a opens, (goes z share g s v p ended opens (Publishes s), (off,
       (k, (x, (is, (record {
         call = ended.call ∙ is;

@@ -26,15 +26,24 @@ use Rattle.pp_turns.specs.Tallies.{losing, effected, lost_of, memory_of, later_o
 use Rattle.pp_turns.specs.Turns.{Since, Unplaced, Struck}
 use Rattle.pp_turns.proofs.Placing.{unplaced_on, struck_later}
 use Rattle.pp_turns.proofs.Purses.{alone_on}
-use Rattle.pp_turns.proofs.Stretches.{since_on, steps_both, own_before, steps_named}
+use Rattle.pp_turns.proofs.Stretches.{saw_on, since_on, steps_both, own_before, steps_named}
 use Rattle.pp_tree_turns.specs.Walked.{Walked, tree_reader, TreeTally, moved}
 use Rattle.pp_tree_turns.specs.Causes.{flagged_leaf, ReadsValueOf, EndedElsewhere}
 use Rattle.pp_tree_turns.specs.Turning.{Names, Walks}
-use Rattle.pp_tree_turns.proofs.Counting.{flagged_on, reads_on, elsewhere_on}
+use Rattle.pp_tree_turns.proofs.Counting.{flagged_on, reads_on, elsewhere_on, none_walks, aside_counted}
+use Rattle.pp_tree_turns.proofs.Seeks.{trail_names}
+use Rattle.pp_tree_turns.specs.Turning.{Minds}
+use Rattle.pp_purse.specs.Steps.{is_purse_step}
+use Rattle.pp_rule.specs.declared.views.PrivateRecord.{PrivateRecord}
+use Rattle.pp_seek.specs.Trails.{Clears}
+use Rattle.pp_seek.specs.declared.seek.Seek.{Seek}
+use Rattle.pp_seek.specs.declared.seek.Spot.{Spot}
+use Rattle.pp_tree.proofs.Resting.{aside_clears, or_clear, same_purse}
+use Rattle.pp_tree.proofs.Closing.{clears_none}
 use Rattle.pp_tree.specs.declared.going.TreeGoing.{TreeGoing}
 use Rattle.pp_tree.specs.Going.{is_look, Counts, IsLosing, HasTaken, Tries, Carries, IsUnder}
 use Rattle.pp_tree.specs.Purses.{TwoRecords, HasOut}
-use Rattle.pp_tree.specs.Turned.{Part, SameGoing}
+use Rattle.pp_tree.specs.Turned.{Part, SameGoing, HasLost, HasMissed}
 
 -- none of the steps writes a link, by their names
 pub silent_none : (names : List NamedStep) (v w : TreeView) → Names names v w → ((s : NamedStep) → IsIn s names → is_writing s.kind ≡ false)
@@ -89,7 +98,7 @@ module _ (z : MapSizes) (call : Call) (from v w : TreeView) (k : ℕ) where
       }
 
 -- a call goes on trying
-pub tries_on : (z : MapSizes) (g : TreeGoing) (lost lost' k : ℕ) (from v w : TreeView) (t : Tries z g lost from v)
+abbrev pub tries_on : (z : MapSizes) (g : TreeGoing) (lost lost' k : ℕ) (from v w : TreeView) (t : Tries z g lost from v)
     → Walks z g.call t.counts.tally k v w → lost' ≡ lost + k → Unplaced v w → w.known.own.start ≡ v.known.own.start
     → Tries z g lost' from w
 tries_on z g lost lost' k from v w t a sum none start = record {
@@ -136,7 +145,48 @@ part_after z share Known Later g g' v u w p' (Done answer) s stands knows a = re
   same = a.same;
   struck = a.struck;
   advances = tt;
-  high = tt;
+  high = a.high;
   goes_on = tt;
   answered = λ from free k. a.answered from free (knows from free k);
 }
+
+-- the same records are out, where the pass owns the same ones
+pub out_same : (records : TwoRecords) (q q' : TreePass) (p p' : Purse) → q'.owned ≡ q.owned → p' ≡ p → HasOut q p records → HasOut q' p' records
+out_same records q q' p p' owned same out = subst (λ (x : Purse). HasOut q' x records) (sym same) (by records out)
+  where
+    by : (r : TwoRecords) → HasOut q p r → HasOut q' p r
+    by None o = o
+    by (Some f) o = subst (λ (ds : List PrivateRecord). HasOut (record q { owned = ds }) p (Some f)) (sym owned) o
+
+-- what a call had lost is lost still as it lets go of what it holds
+pub clears_walks : (z : Sizes) (call : Call) (t : TreeTally) (v w : TreeView) → Clears v w → (memory_of t).coming ≡ false
+    → Walks (map_sizes z) call t 0 v w
+clears_walks z call t v w c calm = none_walks z call t c.trail.steps v w (trail_names v w c.trail) calm
+    (aside_counted z call (memory_of t) c.trail.steps record {
+      each = λ s i. or_clear (is_purse_step z s) s.kind (c.each s i);
+    })
+
+-- a call seeks again
+pub missed_lost : (z : Sizes) (share : ℕ) (g : TreeGoing) (s : Seek) (v u : TreeView) (p p' : Purse) → s.spot ≡ None → Clears v u
+    → u.known.own.start ≡ v.known.own.start → p' ≡ p
+    → (from : TreeView) (free : List ℕ) → HasMissed z share g v p from free → HasLost z share g s u p' from free
+missed_lost z share g s v u p p' head c start same from free k =
+    let a = clears_walks z g.call k.tries.counts.tally v u c k.tries.counts.calm in
+    let n = aside_clears z v u c in record {
+      tries = tries_on (map_sizes z) g (g.lost + 1) (g.lost + 1) 0 from v u k.tries a (omega arith) n.unplaced start;
+      minds = subst (λ (o : Option Spot). Minds (memory_of (moved k.tries.counts.tally a.memory 0 (steps_made v u))) o) (sym head) tt;
+      last = saw_on from v u k.tries.counts.since.went k.last n.stepped;
+      carries = carries_on share g.call g.records from v u free p p' c.trail.rest.sizes
+          (out_same g.records v.known u.known p p' c.trail.rest.owned same) (ap (λ (x : Purse). x.free.items) same)
+          (λ looks. (n.stepped, clears_none v u c, same_purse v u c.trail.rest)) k.carries;
+    }
+
+pub lost_shared : (z : Sizes) (share share' : ℕ) (g g' : TreeGoing) (s : Seek) (v w : TreeView) (p p' : Purse) (result : Turned)
+    → share' ≡ share → Part z share' (HasLost z share' g s v p) g g' v w p' result → Part z share (HasLost z share g s v p) g g' v w p' result
+lost_shared z share share' g g' s v w p p' result same e =
+    subst (λ (n : ℕ). Part z n (HasLost z n g s v p) g g' v w p' result) same e
+
+pub missed_shared : (z : Sizes) (share share' : ℕ) (g g' : TreeGoing) (v w : TreeView) (p p' : Purse) (result : Turned)
+    → share' ≡ share → Part z share' (HasMissed z share' g v p) g g' v w p' result → Part z share (HasMissed z share g v p) g g' v w p' result
+missed_shared z share share' g g' v w p p' result same e =
+    subst (λ (n : ℕ). Part z n (HasMissed z n g v p) g g' v w p' result) same e

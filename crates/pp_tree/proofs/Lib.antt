@@ -4,3 +4,6 @@ pub mod Losing
 pub mod Lasting
 pub mod Arriving
 pub mod Idling
+pub mod Treading
+pub mod Seeking
+pub mod Landing

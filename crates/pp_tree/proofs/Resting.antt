@@ -67,7 +67,7 @@ second_private q q' f p p' same gave out = subst (λ (x : TreePass). IsPrivate x
     (private_gave q f.0.number p p' f.1.number out.2 gave out.1)
 
 -- clears of walk words
-or_clear : (b : Bool) (k : ℕ) → k ≡ clear_step → b || (nat_eq k clear_step || nat_eq k write_step) ≡ true
+pub or_clear : (b : Bool) (k : ℕ) → k ≡ clear_step → b || (nat_eq k clear_step || nat_eq k write_step) ≡ true
 or_clear true k is = refl
 or_clear false k is = ap (λ (n : ℕ). nat_eq n clear_step || nat_eq n write_step) is
 

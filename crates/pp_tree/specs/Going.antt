@@ -19,7 +19,7 @@ use Rattle.pp_seek.specs.declared.seek.Seek.{Seek}
 use Rattle.pp_seek.specs.declared.seek.Spot.{Spot}
 use Rattle.pp_seek.specs.declared.seek.Sought.{Sought}
 use Rattle.pp_seek.specs.Seeking.{Seeks as IsSeek}
-use Rattle.pp_trees.specs.Trees.{across}
+use Rattle.pp_trees.specs.Trees.{across, inf0}
 use Rattle.pp_trees.specs.Searches.{TreePass}
 use Rattle.pp_trees.specs.Edges.{TreeView}
 use Rattle.pp_turns.specs.Tallies.{losing, effected, lost_of, memory_of, later_of}
@@ -155,6 +155,7 @@ pub record Carries (share : ℕ) (call : Call) (records : TwoRecords) (from now 
 -- The call is under way on a pass with this share: it was begun at this view, with these free numbers.
 pub record IsUnder (z : Sizes) (share : ℕ) (g : TreeGoing) (now : TreeView) (p : Purse) (from : TreeView) (free : List ℕ)
     : Type 0 where
+  pub pair : key_of g.call < inf0
   pub below : g.lost < g.races
   pub rest : IsAtRest now.known p
   pub looks : is_look g.call ≡ true → g.struck ≡ false

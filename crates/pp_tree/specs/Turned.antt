@@ -1,5 +1,5 @@
 -- What a part of a turn makes of a call that is going on a tree.
-use Rattle.std.specs.Prelude.{◌≡◌, ◌≢◌, ◌⊎◌, ℕ, ◌+◌, ◌<◌, ◌≤◌, Bool, true, false, not, List, ◌∷◌, ◌++◌, length, [], None, Option}
+use Rattle.std.specs.Prelude.{◌≡◌, ◌≢◌, ◌⊎◌, ℕ, ◌+◌, ◌^◌, ◌<◌, ◌≤◌, Bool, true, false, not, List, ◌∷◌, ◌++◌, length, [], None, Option}
 use Rattle.pp_link.specs.declared.layout.Sizes.{Sizes}
 use Rattle.pp_link.specs.Links.{word_of, target, flag_bit}
 use Rattle.pp_model.specs.declared.Answer.{Answer}
@@ -20,7 +20,7 @@ use Rattle.pp_shelf.specs.Runs.{map_sizes, steps_made}
 use Rattle.pp_seek.specs.declared.seek.Seek.{Seek}
 use Rattle.pp_seek.specs.declared.seek.Sought.{Sought}
 use Rattle.pp_seek.specs.Seeking.{Seeks as IsSeek, IsSought}
-use Rattle.pp_trees.specs.Trees.{IsRight}
+use Rattle.pp_trees.specs.Trees.{IsRight, inf0}
 use Rattle.pp_trees.specs.Searches.{TreePass}
 use Rattle.pp_trees.specs.Edges.{TreeView, end_step}
 use Rattle.pp_trees.specs.Seeks.{found_at}
@@ -30,7 +30,7 @@ use Rattle.pp_tree_turns.specs.Turning.{Minds, Walks}
 use Rattle.pp_tree_turns.specs.Walked.{TreeTally}
 use Rattle.pp_tree_turns.specs.Causes.{tree_meaning}
 use Rattle.pp_tree.specs.declared.going.TreeGoing.{TreeGoing}
-use Rattle.pp_tree.specs.Going.{kind_of, going_of, upper_at, is_look, Counts, IsLosing, HasTaken, Tries, Goes, Carries, IsUnder}
+use Rattle.pp_tree.specs.Going.{kind_of, spot_of, going_of, upper_at, is_look, Counts, IsLosing, HasTaken, Tries, Goes, Carries, IsUnder}
 use Rattle.pp_tree.specs.Purses.{HasOut}
 
 -- it is the same call, with the same budget
@@ -52,7 +52,7 @@ pub record Part (z : Sizes) (share : ℕ) (Known : TreeView → List ℕ → Typ
   pub same : SameGoing g g'
   pub struck : IfDone result (λ answer. g'.struck ≡ took_effect answer)
   pub advances : IfOn result (Advances g g')
-  pub high : IfOn result (kind_of g'.next ≤ 3)
+  pub high : upper_at (spot_of g'.next) ≤ 2 ^ 64
   pub goes_on : IfOn result ((from : TreeView) (free : List ℕ) → Known from free → IsUnder z share g' w p' from free)
   pub answered : IfDone result (λ answer. (from : TreeView) (free : List ℕ) → Known from free → StandsThen w
       → AnswersCall tree_meaning (map_sizes z) g.call g.races (pool_view from free share) (pool_view w p'.free.items share) answer)
@@ -71,6 +71,13 @@ pub record HasLost (z : Sizes) (share : ℕ) (g : TreeGoing) (s : Seek) (v : Tre
     : Type 0 where
   pub tries : Tries (map_sizes z) g (g.lost + 1) from v
   pub minds : Minds (memory_of tries.counts.tally) s.spot
+  pub last : SawLast from v
+  pub carries : Carries share g.call g.records from v free p
+
+-- A turn of it was lost just now.
+pub record HasMissed (z : Sizes) (share : ℕ) (g : TreeGoing) (v : TreeView) (p : Purse) (from : TreeView) (free : List ℕ)
+    : Type 0 where
+  pub tries : Tries (map_sizes z) g (g.lost + 1) from v
   pub last : SawLast from v
   pub carries : Carries share g.call g.records from v free p
 
@@ -110,6 +117,7 @@ pub record HasEnded (z : Sizes) (g : TreeGoing) (q : TreePass) (p : Purse) (s : 
   pub call : q.own.call ≡ g.call
   pub goes : g.struck ≡ false → changes (reply_at g.call (found_by g s q)) ≡ true → q.own.going ≡ true
   pub gone : g.struck ≡ true → q.own.going ≡ false
+  pub pair : key_of g.call < inf0
   pub below : g.lost < g.races
   pub seeks : kind_of g.next ≡ 0
   pub rest : IsAtRest q p
@@ -123,6 +131,7 @@ pub record TreeTurned (z : Sizes) (share : ℕ) (g g' : TreeGoing) (v w : TreeVi
   pub stands : HasOwn w.order → StandsThen v → StandsThen w
   pub call : g'.call ≡ g.call
   pub races : g'.races ≡ g.races
+  pub high : upper_at (spot_of g'.next) ≤ 2 ^ 64
   pub stays : g.struck ≡ true → g'.struck ≡ true
   pub strikes : g.struck ≡ false → g'.struck ≡ true → (said : Reply) × Struck g.call said v w
   pub struck : IfDone result (λ answer. g'.struck ≡ took_effect answer)

@@ -7,11 +7,12 @@ ghost use Rattle.pp_model.specs.MapCalls.{IfDone};
 ghost use Rattle.pp_rule.specs.Views.{slot, value_of};
 ghost use Rattle.pp_link.specs.Links.{word_of, flag_bit};
 ghost use Rattle.pp_seek.specs.Seeking.{Seeks as IsSeek};
+ghost use Rattle.pp_trees.specs.Trees.{inf0};
 ghost use Rattle.pp_turns.specs.Passes.{IsResting};
 ghost use Rattle.pp_tree.specs.Answers.{Ends};
 ghost use Rattle.pp_tree.specs.Going.{is_look, upper_at, Goes};
 ghost use Rattle.pp_tree.specs.Purses.{HasOut};
-ghost use Rattle.pp_tree.specs.Turned.{Part, HasLost, HasArrived, HasEnded};
+ghost use Rattle.pp_tree.specs.Turned.{Part, HasLost, HasMissed, HasArrived, HasEnded};
 
 use crate::ending::finish;
 use crate::going::{Next, TreeGoing};
@@ -62,6 +63,7 @@ pub fn lose(going: &mut TreeGoing, pool: &Pool<TreeShape>, pass: &mut Pass<TreeS
     requires out { HasOut (known pass.old.seat) pass.old.purse going.old.records }
     requires none { is_look going.old.call ≡ true → going.old.records ≡ None }
     requires unstruck { is_look going.old.call ≡ true → going.old.struck ≡ false }
+    requires pair { key_of going.old.call < inf0 }
     requires below { going.old.lost < going.old.races }
     requires goes { Goes going.old (known pass.old.seat) }
     requires seek { (seek.call ≡ going.old.call) × (IsSeek (known pass.old.seat) seek × (seek.fresh ≡ false)) }
@@ -82,6 +84,26 @@ pub fn lose(going: &mut TreeGoing, pool: &Pool<TreeShape>, pass: &mut Pass<TreeS
     }
     going.next = Next::Seeks(seek);
     Turned::On
+}
+
+/// Counts a turn of a call that was lost, which lets go of all that it holds and seeks again.
+pub fn lose_again(going: &mut TreeGoing, pool: &Pool<TreeShape>, pass: &mut Pass<TreeShape>) -> Turned
+    requires fits { Fits pool.now.table.shared.table_id pool.now.layout pass.old.seat }
+    requires rest { IsAtRest (known pass.old.seat) pass.old.purse }
+    requires out { HasOut (known pass.old.seat) pass.old.purse going.old.records }
+    requires none { is_look going.old.call ≡ true → going.old.records ≡ None }
+    requires unstruck { is_look going.old.call ≡ true → going.old.struck ≡ false }
+    requires pair { key_of going.old.call < inf0 }
+    requires below { going.old.lost < going.old.races }
+    requires goes { Goes going.old (known pass.old.seat) }
+    ensures same { IsSame pass.old.seat pass.new.seat }
+    ensures part { Part pool.now.layout pass.old.share (HasMissed pool.now.layout pass.old.share going.old (view pass.old.seat) pass.old.purse)
+        going.old going.new (view pass.old.seat) (view pass.new.seat) pass.new.purse result }
+    ensures resting { IfDone result (λ _. IsResting pass.new) }
+{
+    let seek = Seek::again(going.call);
+    seek.done(pool, pass);
+    lose(going, pool, pass, seek)
 }
 
 /// What a removal does next whose seek ended at the leaf of its key: it sets FLAG, or where the edge has TAG it helps.
