@@ -7,3 +7,4 @@ pub mod Idling
 pub mod Treading
 pub mod Seeking
 pub mod Landing
+pub mod Exchanged

@@ -171,3 +171,16 @@ module _ (z : Sizes) (share : ℕ) (g : TreeGoing) (v w : TreeView) (p p' : Purs
             last = saw_last from v w b.0.counts.since.went names.stepped (lost_some z x v w lost.0);
             carries = carries_trail share g.call g.records from v w free p p' lost.0.trail same u.carries;
           }
+
+  -- what a turn that was lost made of its pass
+  pub record LostTurn (s s' : Seek) : Type 0 where
+    pub trail : Trail v w
+    pub some_made : 0 < length (steps_made v w)
+    pub own : SameCall v.known.own w.known.own
+
+  pub lost_turn : (s s' : Seek) → WasLost z s.spot s'.spot v w → LostTurn s s'
+  lost_turn s s' lost = by s.spot lost
+    where
+      by : (spot : Option Spot) → WasLost z spot s'.spot v w → LostTurn s s'
+      by None l = absurd l
+      by (Some x) l = record { trail = l.0.trail; some_made = lost_some z x v w l.0; own = l.2 }

@@ -5,6 +5,6 @@ pub mod ending;
 pub mod going;
 pub mod parts;
 pub mod stored;
-// pub mod turns;
+pub mod turns;
 
 pub use going::{Next, TreeGoing};
