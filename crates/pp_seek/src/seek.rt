@@ -129,6 +129,7 @@ impl Seek {
         ensures same { IsSame pass.old.seat pass.new.seat }
         ensures turned { Turned pool.now.layout self.old self.new (view pass.old.seat) (view pass.new.seat) result }
         ensures call { self.new.call ≡ self.old.call }
+        ensures begun { self.new.fresh ≡ false }
         ensures purse { pass.new.purse ≡ pass.old.purse }
     {
         let Some(spot) = self.spot else {

@@ -59,7 +59,7 @@ module _ (z : Sizes) (call : Call) where
       → CountsNone m (s ∷ names)
   idle_counted m s names i c = more_counted m s names (idle_next ms call m s i) (idle_loses ms m s i) (idle_strikes s i) c
 
-  aside_counted : (m : Walked) (names : List NamedStep) → AreAside z names → CountsNone m names
+  pub aside_counted : (m : Walked) (names : List NamedStep) → AreAside z names → CountsNone m names
   aside_counted m [] a = none_counted m
   aside_counted m (s ∷ names) a = let here = a.each s (in_first s names) in
       more_counted m s names (aside_next z call m s here) (aside_loses z m s here) (aside_strikes z s here)

@@ -1,4 +1,5 @@
 -- What the turns after a seek make of a pass.
+use Rattle.std.specs.Prelude.{◌&&◌}
 use Rattle.std.proofs.Common.{◌≡◌, ◌≢◌, ◌⊎◌, ℕ, zero, suc, ◌+◌, ◌*◌, ◌^◌, ◌/◌, ◌%◌, ◌<◌, ◌≤◌, Bool, true, false, cond, List, [], ◌∷◌, ◌++◌, length, bit_or}
 use Rattle.std.proofs.Common.{refl, sym, ap, ◌∙◌, subst, ⊎_elim, inl, inr, arith, append-nil, append_assoc, map}
 use Rattle.std.proofs.Math.ListN.{length-map}
@@ -46,6 +47,8 @@ use Rattle.pp_edges.specs.Edging.{Missed, HoldsLeaf, Removes, MaySpliceAt, HasPa
 use Rattle.pp_seek.specs.declared.seek.Sought.{Sought}
 use Rattle.pp_seek.specs.Trails.{SameCall, SameRest, reads}
 use Rattle.pp_seek.specs.Seeking.{IsSought}
+use Rattle.pp_unlink.specs.Invalidation.{Flushed}
+use Rattle.pp_rule.specs.Steps.{learning, with_walk}
 use Rattle.pp_seek.proofs.Trailing.{rest_by}
 use Rattle.pp_seek.proofs.Going.{learning_own}
 use Rattle.pp_trees.specs.declared.own.TreeOwn.{TreeOwn}
@@ -306,6 +309,22 @@ flush_names : (z : Sizes) (v b : TreeView) → length v.known.chains ≤ 4 → M
 flush_names z v b few f = dite (ℕ_discrete (length v.known.chains) 4) (λ full. flushed_purse 2 z 4 v b (f.full full))
     (λ ne. ([], none_made z v b (f.few (omega arith))))
 
+-- the pass owns the same records then
+flushed_owned : (z : Sizes) (n : ℕ) (v w : TreeView) → Flushed 2 z n v w → w.known.owned ≡ v.known.owned
+flushed_owned z zero v w is = ap (λ (u : TreeView). u.known.owned) is
+flushed_owned z (suc n) v w (u, (first, rest)) = flushed_owned z n u w rest ∙ ap (λ (q : TreePass). q.owned) first.known
+
+flush_owned : (z : Sizes) (v b : TreeView) → length v.known.chains ≤ 4 → MayFlush 2 z v b → b.known.owned ≡ v.known.owned
+flush_owned z v b few f = dite (ℕ_discrete (length v.known.chains) 4) (λ full. flushed_owned z 4 v b (f.full full))
+    (λ ne. ap (λ (u : TreeView). u.known.owned) (f.few (omega arith)))
+
+learning_owned : (i sd word : ℕ) (q : TreePass) → (learning has_mark i sd word q).owned ≡ q.owned
+learning_owned i sd word q = by (has_mark word && (slot q i).held)
+  where
+    by : (b : Bool) → (cond b (with_walk i (record (slot q i) { learnt = (sd, word) ∷ (slot q i).learnt }) q) q).owned ≡ q.owned
+    by true = refl
+    by false = refl
+
 purse_aside : (z : Sizes) (names : List NamedStep) → ((s : NamedStep) → IsIn s names → is_purse_step z s ≡ true) → AreAside z names
 purse_aside z names each = record {
   each = λ s i. ap (λ (b : Bool). b || (nat_eq s.kind clear_step || nat_eq s.kind write_step)) (each s i);
@@ -334,6 +353,7 @@ misses_path z at from first new found v w few far m = let f = flush_names z v m.
       unplaced = unplaced_on v m.between w (made_names f.0 v m.between f.1.made).stepped.number (unplaced_made f.0 v m.between f.1.made)
           (unplaced_made then m.between w m.steps);
       own = ap (λ (q : TreePass). q.own) m.known ∙ (learning_at_own at from found m.between.known ∙ own);
+      owned = ap (λ (q : TreePass). q.owned) m.known ∙ (learning_at_owned at from found m.between.known ∙ flush_owned z v m.between few m.flushed);
     }
   where
     then : List NamedStep
@@ -343,6 +363,10 @@ misses_path z at from first new found v w few far m = let f = flush_names z v m.
     learning_at_own : (p : Place) (sd : Side) (word : ℕ) (q : TreePass) → (learning_at has_mark p sd word q).own ≡ q.own
     learning_at_own (Head h) sd word q = refl
     learning_at_own (Walk i) sd word q = learning_own i (side_number sd) word q
+
+    learning_at_owned : (p : Place) (sd : Side) (word : ℕ) (q : TreePass) → (learning_at has_mark p sd word q).owned ≡ q.owned
+    learning_at_owned (Head h) sd word q = refl
+    learning_at_owned (Walk i) sd word q = learning_owned i (side_number sd) word q
 
 pub takes_path : (z : Sizes) (at : Place) (from : Side) (first new i place : ℕ) (v b w : TreeView) → length v.known.chains ≤ 4
     → Exchanges 2 z has_mark tree_chain at from first new v b → HasPathInHand v.known.own.path b
@@ -374,6 +398,7 @@ takes_path z at from first new i place v b w few x hand cleared gone = let f = f
         going = ap (λ (q : TreePass). q.own.going) known ∙ ap (λ (o : TreeOwn). o.going) own;
         left = ap (λ (q : TreePass). q.own.left) known ∙ ap (λ (o : TreeOwn). o.left) own;
       };
+      owned = ap (λ (q : TreePass). q.owned) known ∙ (ap (λ (q : TreePass). q.owned) x.known ∙ flush_owned z v x.between few x.flushed);
       gone = λ n taken. gone.gone hand.chain n (subst (λ (cs : List Chain). IsIn hand.chain cs)
           (sym (ap (λ (q : TreePass). q.chains) known ∙ hand.newest)) (in_right hand.chain hand.others (hand.chain ∷ [])
           (in_first hand.chain []))) (hand.all n taken);

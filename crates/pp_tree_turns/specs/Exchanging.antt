@@ -131,6 +131,7 @@ pub record MissesPath (z : Sizes) (v w : TreeView) : Type 0 where
   pub names : Names (flush ++ guards guard number ∷ misses place found ∷ unguards guard ∷ []) v w
   pub unplaced : Unplaced v w
   pub own : w.known.own ≡ v.known.own
+  pub owned : w.known.owned ≡ v.known.owned
 
 -- The path was taken out of the tree, and a walk word was cleared: the records of the path, and the leaves beside, can't be reached.
 pub record TakesPath (z : Sizes) (v w : TreeView) : Type 0 where
@@ -144,6 +145,7 @@ pub record TakesPath (z : Sizes) (v w : TreeView) : Type 0 where
   pub names : Names (flush ++ guards guard number ∷ detaches place word ∷ clears cleared ∷ []) v w
   pub unplaced : Unplaced v w
   pub same : SameCall v.known.own w.known.own
+  pub owned : w.known.owned ≡ v.known.owned
   pub gone : (n : ℕ) → Taken v.known.own.path n
       → Reached 2 z (replayed (opening_words 5 root_head sentinel_field z) (entries_of w.order)) n → ⊥
 

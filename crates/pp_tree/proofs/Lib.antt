@@ -1,0 +1,10 @@
+pub mod Resting
+pub mod Closing
+pub mod Losing
+pub mod Lasting
+pub mod Arriving
+pub mod Idling
+pub mod Treading
+pub mod Seeking
+pub mod Landing
+pub mod Exchanged

@@ -1,0 +1,4 @@
+pub mod Purses
+pub mod Going
+pub mod Answers
+pub mod Turned

@@ -1,0 +1,10 @@
+//! A tree over a pool, and its calls turn by turn.
+#![tactic(auto)]
+
+pub mod ending;
+pub mod going;
+pub mod parts;
+pub mod stored;
+pub mod turns;
+
+pub use going::{Next, TreeGoing};
