@@ -1,0 +1,5 @@
+pub mod Telling
+pub mod Starting
+pub mod Beginning
+pub mod Learning
+pub mod Turning

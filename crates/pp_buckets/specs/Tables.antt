@@ -1,0 +1,23 @@
+-- A hash table and its passes.
+use Rattle.std.specs.Prelude.{ℕ, List}
+use Rattle.pp_link.specs.declared.layout.Sizes.{Sizes}
+use Rattle.pp_model.specs.declared.Change.{Change}
+use Rattle.pp_model.specs.declared.Placed.{Placed}
+use Rattle.pp_model.specs.Pass.{PassView}
+use Rattle.pp_rule.specs.declared.shape.Shape.{Ghosts}
+use Rattle.pp_base.specs.declared.pool.Pass.{Pass}
+use Rattle.pp_base.specs.Passes.{view}
+use Rattle.pp_lists.specs.Turns.{ListView}
+use Rattle.pp_lists.specs.declared.own.ListOwn.{ListOwn}
+use Rattle.pp_turns.specs.Turns.{BegunAt}
+use Rattle.pp_list.specs.declared.going.ListGoing.{ListGoing}
+use Rattle.pp_list.specs.Going.{IsUnder}
+
+-- the sizes of the pool of a table
+abbrev pub table_sizes : ℕ → ℕ → ℕ → Sizes
+table_sizes passes records buckets = record { passes = passes; records = records; heads = buckets }
+
+-- the call is under way on the pass, which callers saw so as it was begun
+abbrev pub IsCalling : {S : Type 0} {shape : Ghosts S Change Placed ListOwn} → Sizes → Pass S Change Placed ListOwn shape → ListGoing
+    → PassView → Type 0
+IsCalling z p g before = BegunAt p.share (IsUnder z p.share g (view p.seat) p.purse) before
