@@ -47,6 +47,10 @@ all_empty z q walk p is none j lt = let zero_named : (slot q j).named ≡ 0 = na
     by false held zero_named = held
     by true held zero_named = let number = p.held j lt held in absurd (let low = number.0 in omega arith)
 
+-- a pass at rest stays so as a call begins
+pub rest_going : (q : ListPass) (p p' : Purse) → p' ≡ record p { going = true } → IsAtRest q p → IsAtRest q p'
+rest_going q p p' is r = subst (IsAtRest q) (sym is) record { scan = r.scan; spent = r.spent; frontier = r.frontier }
+
 module _ (z : Sizes) (share head : ℕ) (call : Call) (races : ℕ) (g : ListGoing) (v : ListView) (p : Purse) (b : BeginsOn head call races g)
     (low : head < z.heads) (home : head ≡ bucket z.heads (key_of call)) (some_races : 1 ≤ races) (empty : AllEmpty v.known)
     (rest : IsAtRest v.known p) (none : p.taken ≡ 0) where

@@ -91,15 +91,32 @@ module _ (z : Sizes) (share : ℕ) (from v w : ListView) (same : w.known ≡ v.k
   stands_learnt : (call : Call) (races lost : ℕ) (n : Next) → Stands z call races lost n from v → Stands z call races lost n from w
   stands_learnt call races lost (Walks x) s =
       (s.0, (subst (λ (q : ListPass). IsWalk z q x) (sym same) s.1.0, begun_learnt x.fresh call lost s.1.1))
-  stands_learnt call races lost (Detaches f) s = (tries_learnt call lost s.0, (inserts_learnt call s.1.0,
-      (subst (λ (q : ListPass). IsFound z q call f) (sym same) s.1.1.0, s.1.1.1)))
-  stands_learnt call races lost (Marks f) s = (tries_learnt call lost s.0,
-      subst (λ (q : ListPass). IsFound z q call f × ((f.equal ≡ true) × (q.own.going ≡ true) × (f.word < 5)
-      × ((slot q f.word).held ≡ true) × Takes call (slot q f.word).key (value_of (slot q f.word).value))) (sym same) s.1)
-  stands_learnt call races lost (Publishes f) s = (tries_learnt call lost s.0, (inserts_learnt call s.1.0,
-      subst (λ (q : ListPass). MayFill z q f.anchor f.end (key_of call) × HoldsFirst q) (sym same) s.1.1))
-  stands_learnt call races lost (Unlinks m) s = (s.0, (taken_learnt call races lost s.0 m.value s.1.0,
-      subst (λ (q : ListPass). MayUnlink z q m s.0) (sym same) s.1.1))
+  stands_learnt call races lost (Detaches f) s = (
+    tries_learnt call lost s.0,
+    (
+      inserts_learnt call s.1.0,
+      (subst (λ (q : ListPass). IsFound z q call f) (sym same) s.1.1.0, s.1.1.1),
+    ),
+  )
+  stands_learnt call races lost (Marks f) s = (
+    tries_learnt call lost s.0,
+    subst (λ (q : ListPass). IsFound z q call f × ((f.equal ≡ true) × (q.own.going ≡ true) × (f.word < 5)
+        × ((slot q f.word).held ≡ true) × Takes call (slot q f.word).key (value_of (slot q f.word).value))) (sym same) s.1,
+  )
+  stands_learnt call races lost (Publishes f) s = (
+    tries_learnt call lost s.0,
+    (
+      inserts_learnt call s.1.0,
+      subst (λ (q : ListPass). MayFill z q f.anchor f.end (key_of call) × HoldsFirst q) (sym same) s.1.1,
+    ),
+  )
+  stands_learnt call races lost (Unlinks m) s = (
+    s.0,
+    (
+      taken_learnt call races lost s.0 m.value s.1.0,
+      subst (λ (q : ListPass). MayUnlink z q m s.0) (sym same) s.1.1,
+    ),
+  )
   stands_learnt call races lost Over s = s
 
   pub under_learnt : (g : ListGoing) (p : Purse) (free : List ℕ) → IsUnder z share g v p from free → IsUnder z share g w p from free

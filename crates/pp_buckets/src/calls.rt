@@ -14,14 +14,16 @@ ghost use Rattle.pp_turns.specs.Passes.{IsMember, IsResting};
 ghost use Rattle.pp_buckets.specs.Tables.{IsCalling};
 
 use crate::Buckets;
+use pp_answers::answers::{of_cut, of_get, of_insert, of_remove};
 use pp_base::Pass;
 use pp_list::ending::set_going;
 use pp_list::{ListGoing, ListOp};
-use pp_model::{Answer, Call, CloseFault, Closed, Cut, InsertFault, Inserted, Lost, MapCalls, Turned};
-use pp_pool::closing::{Witness, close};
+use pp_model::{
+    Answer, Call, CloseFault, Closed, Cut, InsertFault, Inserted, Lost, MapCalls, Turned,
+};
 use pp_pool::carried::Note;
+use pp_pool::closing::{Witness, close};
 use pp_pool::notes::{learn, note};
-use pp_answers::answers::{of_cut, of_get, of_insert, of_remove};
 use pp_walk::ListShape;
 use std::alloc::Global;
 
@@ -122,11 +124,22 @@ impl MapCalls for Buckets {
         of_insert(answer(self, pass, Call::Insert { key, value }, races))
     }
 
-    fn remove(&self, pass: &mut Pass<ListShape>, key: u64, races: u64) -> Result<Option<u128>, Lost> {
+    fn remove(
+        &self,
+        pass: &mut Pass<ListShape>,
+        key: u64,
+        races: u64,
+    ) -> Result<Option<u128>, Lost> {
         of_remove(answer(self, pass, Call::Remove { key }, races))
     }
 
-    fn cut(&self, pass: &mut Pass<ListShape>, key: u64, value: u128, races: u64) -> Result<Cut, Lost> {
+    fn cut(
+        &self,
+        pass: &mut Pass<ListShape>,
+        key: u64,
+        value: u128,
+        races: u64,
+    ) -> Result<Cut, Lost> {
         of_cut(answer(self, pass, Call::Cut { key, value }, races), value)
     }
 

@@ -9,6 +9,7 @@ ghost use Rattle.pp_model.specs.Lists.{AtEach};
 ghost use Rattle.pp_model.specs.Pass.{IsFresh};
 ghost use Rattle.pp_lists.specs.Walks.{bucket};
 ghost use Rattle.pp_calls.specs.PoolViews.{pass_view};
+ghost use Rattle.pp_rule.specs.Opening.{share_of};
 ghost use Rattle.pp_turns.specs.Passes.{IsMember, IsResting};
 ghost use Rattle.pp_buckets.specs.Tables.{table_sizes};
 
@@ -23,6 +24,7 @@ use std::alloc::Global;
 /// Each of its callers has a pass, and all of them may make their calls beside each other.
 ///
 /// A table of lists is Michael's ("High Performance Dynamic Lock-Free Hash Tables and List-Based Sets", 2002).
+#[derive(Drop)]
 pub struct Buckets {
     pub pool: Pool<ListShape>,
 }
@@ -48,6 +50,8 @@ impl Buckets {
         ensures belong { IfOk result (λ made. AtEach made.1.items (λ k p. IsMember made.0.pool.table.shared.table_id made.0.pool.layout p)) }
         ensures rest { IfOk result (λ made. AtEach made.1.items (λ k p. IsResting p)) }
         ensures fresh { IfOk result (λ made. AtEach made.1.items (λ k p. IsFresh (pass_view p))) }
+        ensures share { IfOk result (λ made. AtEach made.1.items (λ k p. (pass_view p).share
+            ≡ share_of 0 (table_sizes passes records buckets) k)) }
         ensures callers { IfOk result (λ made. AtEach made.1.items (λ k p. (pass_view p).caller ≡ k)) }
     {
         let heads = buckets;
@@ -72,7 +76,8 @@ impl Buckets {
     ///
     /// Multiplying by such a number is Knuth's ("The Art of Computer Programming", volume 3, 1973).
     pub fn bucket(&self, key: u64) -> u32
-        ensures { result ≡ bucket self.now.pool.layout.heads key }
+        ensures low { result < self.now.pool.layout.heads }
+        ensures home { result ≡ bucket self.now.pool.layout.heads key }
     {
         home(self.pool.layout.sizes().heads, key)
     }

@@ -11,3 +11,6 @@ returns-clause-belong c = λ k p at. let n = c.in_ok-pool.ensures.passes k p at 
 
 pub returns-clause-fresh : goal.returns-clause-fresh
 returns-clause-fresh c = λ k p at. fresh _ _ k p (c.in_ok-pool.ensures.passes k p at)
+
+pub returns-clause-share : goal.returns-clause-share
+returns-clause-share c = λ k p at. (c.in_ok-pool.ensures.passes k p at).share_is
