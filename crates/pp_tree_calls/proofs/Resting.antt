@@ -1,0 +1,78 @@
+-- A pass on which no call is going any more.
+use Rattle.std.proofs.Common.{◌≡◌, ◌≢◌, ℕ, zero, suc, ◌+◌, ◌<◌, ◌≤◌, Bool, true, false, List, [], ◌∷◌, length, map, get_or, refl, sym, ap, ◌∙◌, subst, arith}
+use Rattle.std.proofs.Common.{Option, Some, None, ◌++◌}
+use Rattle.std.specs.Prelude.{replicate, nat_eq, ◌||◌}
+use Rattle.pp_link.specs.declared.layout.Sizes.{Sizes}
+use Rattle.pp_pool.specs.declared.fresh.Fresh.{Fresh}
+use Rattle.pp_pool.specs.Taken.{IsPrivate, GaveBack}
+use Rattle.pp_pool.proofs.Taking.{private_gave}
+use Rattle.pp_rule.specs.declared.views.Chain.{Chain}
+use Rattle.pp_rule.specs.declared.views.WalkSlot.{WalkSlot}
+use Rattle.pp_rule.specs.Steps.{IsUnused}
+use Rattle.pp_rule.specs.Orders.{clear_step, write_step}
+use Rattle.pp_rule.specs.Views.{slot, blank}
+use Rattle.pp_base.specs.declared.purse.Purse.{Purse}
+use Rattle.pp_base.specs.Passes.{named_of, IsAtRest, in_hand_of}
+use Rattle.pp_base.specs.declared.purse.InHand.{InHand}
+use Rattle.pp_base.specs.Named.{NamedStep}
+use Rattle.pp_purse.specs.Steps.{is_purse_step}
+use Rattle.pp_seek.specs.Trails.{SameRest, Clears, IsEmpty}
+use Rattle.pp_seek.specs.Seeking.{AllEmpty}
+use Rattle.pp_trees.specs.Searches.{TreePass}
+use Rattle.pp_trees.specs.Edges.{TreeView}
+use Rattle.pp_calls.specs.Steps.{SamePurse}
+use Rattle.pp_turns.specs.Causes.{is_aside, Aside}
+use Rattle.pp_turns.proofs.Aside.{aside_made}
+use Rattle.pp_tree_calls.specs.Purses.{TwoRecords, HasOut, GaveBackOut, out_of}
+
+-- No scan is under way and no frontier word is in use but for a chain, where the same is known of them.
+pub rest_kept : (q q' : TreePass) (p p' : Purse) → SameRest q q' → p'.spent ≡ p.spent → IsAtRest q p → IsAtRest q' p'
+rest_kept q q' p p' same spent r = record {
+  scan = ap (λ s. s.read) same.scan ∙ r.scan;
+  spent = spent ∙ r.spent;
+  frontier = λ j lt unused. ap (λ (f : List ℕ). get_or f j 0) same.frontier
+      ∙ r.frontier j lt (subst (λ (cs : List Chain). IsUnused j (record q { chains = cs })) same.chains unused);
+}
+
+-- all names are 0 where each walk word is empty
+names_zero : (ws : List WalkSlot) (k : ℕ) → length ws ≡ k → ((j : ℕ) → j < k → (get_or ws j blank).named ≡ 0)
+    → map named_of ws ≡ replicate k zero
+names_zero [] zero long each = refl
+names_zero [] (suc k) long each = absurd (omega arith)
+names_zero (w ∷ ws) zero long each = absurd (omega arith)
+names_zero (w ∷ ws) (suc k) long each = let first : w.named ≡ 0 = each 0 (omega arith) in
+    ap (λ (n : ℕ). n ∷ map named_of ws) first
+    ∙ ap (λ (ns : List ℕ). 0 ∷ ns) (names_zero ws k (omega arith) (λ j lt. each (suc j) (omega arith)))
+
+pub walk_zero : (q : TreePass) (walk : List ℕ) → length q.walk ≡ 5 → map named_of q.walk ≡ walk → AllEmpty q → walk ≡ replicate 5 zero
+walk_zero q walk five is empty = sym is ∙ names_zero q.walk 5 five (λ j lt. (empty j lt).named)
+
+plus_one : (xs : List ℕ) (n : ℕ) → length (xs ++ n ∷ []) ≡ length xs + 1
+plus_one [] n = refl
+plus_one (x ∷ xs) n = let ih = plus_one xs n in omega arith
+
+pub gave_both : (f : Fresh × Fresh) (p q p' : Purse) → p.taken ≡ 2 → GaveBack f.0.number p q → GaveBack f.1.number q p' → GaveBackOut (Some f) p p'
+gave_both f p q p' two a b = record {
+  taken = let t = a.taken in let u = b.taken in omega arith;
+  long = let x = ap (λ (l : List ℕ). length l) a.free ∙ plus_one p.free.items f.0.number in
+      let y = ap (λ (l : List ℕ). length l) b.free ∙ plus_one q.free.items f.1.number in omega arith;
+  going = b.going ∙ a.going;
+  spent = b.spent ∙ a.spent;
+}
+
+-- the second record is private still as the first one is back
+pub second_private : (q q' : TreePass) (f : Fresh × Fresh) (p p' : Purse) → q' ≡ q → GaveBack f.0.number p p' → HasOut q p (Some f)
+    → IsPrivate q' p' f.1.number
+second_private q q' f p p' same gave out = subst (λ (x : TreePass). IsPrivate x p' f.1.number) (sym same)
+    (private_gave q f.0.number p p' f.1.number out.2 gave out.1)
+
+-- clears of walk words
+pub or_clear : (b : Bool) (k : ℕ) → k ≡ clear_step → b || (nat_eq k clear_step || nat_eq k write_step) ≡ true
+or_clear true k is = refl
+or_clear false k is = ap (λ (n : ℕ). nat_eq n clear_step || nat_eq n write_step) is
+
+pub aside_clears : (z : Sizes) (v w : TreeView) → Clears v w → Aside z v w
+aside_clears z v w c = aside_made z c.trail.steps v w c.trail.did (λ s i. or_clear (is_purse_step z s) s.kind (c.each s i))
+
+pub same_purse : (v w : TreeView) → SameRest v.known w.known → SamePurse v w
+same_purse v w s = record { sizes = s.sizes; retired = s.retired_are; chains = ap (λ (l : List Chain). length l) s.chains }

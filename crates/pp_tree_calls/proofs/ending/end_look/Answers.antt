@@ -1,0 +1,20 @@
+use Rattle.std.proofs.Common.{refl, sym, ap, ◌∙◌, subst}
+use Rattle.pp_base.specs.Passes.{known}
+use Rattle.pp_seek.specs.Trails.{SameRest}
+use Rattle.pp_seek.specs.Seeking.{AllEmpty}
+use Rattle.pp_tree_calls.proofs.Resting.{rest_kept, walk_zero}
+use Rattle.pp_tree_calls.proofs.ending.end_look.Goals as goal
+
+pub returns-clause-resting : goal.returns-clause-resting
+returns-clause-resting c = let old = c.args.pass.now in let mid = c.done.new.pass in let new = c.set_going.new.pass in
+    let seat = c.set_going.ensures.seat in let purse = c.set_going.ensures.purse in record {
+      idle = (
+        walk_zero (known new.seat) new.walk new.keeping.pass.five new.keeping.walk_is
+            (subst (λ s. AllEmpty (known s)) (sym seat) c.done.ensures.lets.empty),
+        ap (λ p. p.going) purse,
+        ap (λ p. p.taken) purse ∙ (ap (λ p. p.taken) c.done.ensures.purse ∙ c.requires.none),
+      );
+      rest = rest_kept (known old.seat) (known new.seat) old.purse new.purse
+          (subst (λ s. SameRest (known old.seat) (known s)) (sym seat) c.done.ensures.clears.trail.rest)
+          (ap (λ p. p.spent) purse ∙ ap (λ p. p.spent) c.done.ensures.purse) c.requires.rest;
+    }

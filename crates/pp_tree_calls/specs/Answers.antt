@@ -1,0 +1,91 @@
+-- What is known of a call on a tree as it ends, before its last steps.
+use Rattle.std.specs.Prelude.{◌≡◌, ℕ, ◌+◌, ◌<◌, ◌≤◌, Bool, true, false, List, Option, Some, None}
+use Rattle.pp_link.specs.declared.layout.Sizes.{Sizes}
+use Rattle.pp_model.specs.declared.Answer.{Answer}
+use Rattle.pp_model.specs.declared.Answer.TheVariants.{Said, Full, Lost}
+use Rattle.pp_model.specs.declared.Call.{Call}
+use Rattle.pp_model.specs.declared.Call.TheVariants.{Get, Insert, Remove, Cut}
+use Rattle.pp_model.specs.declared.Reply.{Reply}
+use Rattle.pp_model.specs.declared.Reply.TheVariants.{Took}
+use Rattle.pp_model.specs.declared.steps.Step.{Step}
+use Rattle.pp_model.specs.Calls.{changes}
+use Rattle.pp_model.specs.MapCalls.{LeftAlone, AnswersCall}
+use Rattle.pp_base.specs.declared.purse.Purse.{Purse}
+use Rattle.pp_calls.specs.PoolViews.{pool_view}
+use Rattle.pp_calls.specs.Steps.{StandsThen}
+use Rattle.pp_shelf.specs.Runs.{map_sizes, steps_made}
+use Rattle.pp_trees.specs.Edges.{TreeView}
+use Rattle.pp_turns.specs.Tallies.{losing, effected}
+use Rattle.pp_turns.specs.Turns.{Since, Unplaced, Struck, Replied, SawLast, Kept}
+use Rattle.pp_turns.specs.Causes.{TookBy, Aside}
+use Rattle.pp_tree_turns.specs.Walked.{Walked, tree_reader}
+use Rattle.pp_tree_turns.specs.Causes.{tree_causes, tree_words, tree_meaning, flagged_leaf}
+use Rattle.pp_tree_calls.specs.Going.{is_look}
+use Rattle.pp_tree_calls.specs.Purses.{TwoRecords, LooksAway, TidiesUp, out_of}
+
+-- what ends a call, by whether it only looked
+abbrev pub Leaves : Bool → Sizes → ℕ → TwoRecords → TreeView → TreeView → Purse → Purse → Type 0
+Leaves true z share records v w p p' = LooksAway v w p p'
+Leaves false z share records v w p p' = TidiesUp z share records v w p p'
+
+-- it is answered by a reply that changes nothing
+pub record SaysPlain (z : Sizes) (races : ℕ) (call : Call) (said : Reply) (from now : TreeView) : Type 0 where
+  pub start : ℕ
+  pub memory : Walked
+  pub lost : ℕ
+  pub since : Since tree_reader (map_sizes z) call start (losing memory lost) from now
+  pub few : lost < races
+  pub replied : Replied call said start from now
+
+-- Or by one that says what it changed. The leaf that it took is known by its steps.
+pub record SaysStruck (z : Sizes) (races : ℕ) (call : Call) (said : Reply) (from now : TreeView) : Type 0 where
+  pub start : ℕ
+  pub memory : Walked
+  pub lost : ℕ
+  pub early : ℕ
+  pub later : List Step
+  pub since : Since tree_reader (map_sizes z) call start (effected memory lost early later) from now
+  pub few : early < races
+  pub struck : Struck call said from now
+  pub took : (v : ℕ) → said ≡ Took v → TookBy tree_words tree_causes (map_sizes z) call races (effected memory lost early later) from now
+      × (flagged_leaf (steps_made from now) ≡ 0 → ⊥)
+
+-- or it lost as many turns as it may
+pub record GivesUp (z : Sizes) (races : ℕ) (call : Call) (turns : ℕ) (from now : TreeView) : Type 0 where
+  pub start : ℕ
+  pub memory : Walked
+  pub since : Since tree_reader (map_sizes z) call start (losing memory turns) from now
+  pub all : turns ≡ races
+  pub unplaced : Unplaced from now
+
+abbrev pub SaysBy : Bool → Sizes → ℕ → Call → Reply → TreeView → TreeView → Type 0
+SaysBy true z races call said from now = SaysStruck z races call said from now
+SaysBy false z races call said from now = SaysPlain z races call said from now
+
+abbrev pub AnswersBy : Sizes → ℕ → Call → Answer → TreeView → TreeView → Type 0
+AnswersBy z races call (Said r) from now = SaysBy (changes r) z races call r from now
+AnswersBy z races call Full from now = ⊥
+AnswersBy z races call (Lost turns) from now = GivesUp z races call turns from now
+
+-- how many free numbers a call may spend
+abbrev pub spends_of : Call → ℕ
+spends_of (Get k) = 0
+spends_of (Insert k v) = 2
+spends_of (Remove k) = 0
+spends_of (Cut k v) = 0
+
+-- A call that began at this view, with these free numbers, may be ended so.
+pub record MayEnd (z : Sizes) (share races : ℕ) (call : Call) (records : TwoRecords) (answer : Answer) (from now : TreeView)
+    (free : List ℕ) (p : Purse) : Type 0 where
+  pub by : AnswersBy z races call answer from now
+  pub last : SawLast from now
+  pub sizes : now.known.sizes ≡ from.known.sizes
+  pub kept : Kept free share p.free.items (out_of records + spends_of call)
+  pub alone : is_look call ≡ true → LeftAlone (pool_view from free share) (pool_view now p.free.items share)
+
+-- It was ended, with this answer.
+pub record Ends (z : Sizes) (share races : ℕ) (call : Call) (records : TwoRecords) (answer : Answer) (v w : TreeView)
+    (p p' : Purse) : Type 0 where
+  pub aside : Aside z v w
+  pub answered : (from : TreeView) (free : List ℕ) → MayEnd z share races call records answer from v free p → StandsThen w
+      → AnswersCall tree_meaning (map_sizes z) call races (pool_view from free share) (pool_view w p'.free.items share) answer
