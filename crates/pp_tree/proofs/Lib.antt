@@ -1,0 +1,4 @@
+pub mod Starting
+pub mod Beginning
+pub mod Learning
+pub mod Turning
