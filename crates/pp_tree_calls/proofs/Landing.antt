@@ -1,5 +1,6 @@
 -- The seek of a call ended.
-use Rattle.std.proofs.Common.{◌≡◌, ◌≢◌, ◌⊎◌, ℕ, ◌+◌, ◌*◌, ◌<◌, ◌≤◌, ◌^◌, Bool, true, false, cond, List, [], ◌∷◌, ◌++◌, map, length, refl, sym, ap, ◌∙◌, subst, ⊎_elim, inl, inr}
+use Rattle.std.proofs.Common.{◌≡◌, ◌≢◌, ◌⊎◌, ℕ, ◌+◌, ◌*◌, ◌<◌, ◌≤◌, ◌^◌, Bool, true, false, cond, List, [], ◌∷◌, ◌++◌, map}
+use Rattle.std.proofs.Common.{length, refl, sym, ap, ◌∙◌, subst, ⊎_elim, inl, inr}
 use Rattle.std.proofs.Common.{Option, Some, None, append_assoc, arith}
 use Rattle.std.specs.Prelude.{not}
 use Rattle.std.proofs.Math.Bool.{false≢true}
@@ -34,7 +35,8 @@ use Rattle.pp_turns.proofs.Placing.{unplaced_on, replied_on}
 use Rattle.pp_turns.proofs.Stretches.{saw_last}
 use Rattle.pp_tree_turns.specs.Walked.{Walked, TreeTally, moved}
 use Rattle.pp_tree_turns.specs.Turning.{Names, Walks}
-use Rattle.pp_tree_turns.proofs.Ends.{four_steps, ending, ends_names, ends_walks, sought_value, ends_replied, ends_effect, ends_again, ends_same}
+use Rattle.pp_tree_turns.proofs.Ends.{four_steps, ending, ends_names, ends_walks, sought_value, ends_replied, ends_effect}
+use Rattle.pp_tree_turns.proofs.Ends.{ends_again, ends_same}
 use Rattle.pp_tree_calls.specs.declared.going.TreeGoing.{TreeGoing}
 use Rattle.pp_tree_calls.specs.declared.going.Next.{Next}
 use Rattle.pp_tree_calls.specs.declared.going.Next.TheVariants.{Seeks}
@@ -47,7 +49,8 @@ use Rattle.pp_tree_calls.proofs.Treading.{some_named}
 
 -- what the steps of a seek's end are
 ended_at : (place edge announced number at read key : ℕ) (t : TreeTally) (m : Walked) (k : ℕ) (steps : List Step)
-    → map name_of steps ≡ loads place edge ∷ announces announced number ∷ record { kind = end_step; place = at; word = edge } ∷ reads read key ∷ []
+    → map name_of steps ≡ loads place edge ∷ announces announced number
+    ∷ record { kind = end_step; place = at; word = edge } ∷ reads read key ∷ []
     → (memory : Walked) (lost early : ℕ) (later : List Step) → t ≡ effected memory lost early later
     → EndedAt edge key (later_of (moved t m k steps))
 ended_at place edge announced number at read key t m k steps named memory lost early later is =
@@ -126,8 +129,8 @@ module _ (z : Sizes) (share : ℕ) (g : TreeGoing) (k : ℕ) (sought : Sought) (
           losing_still = λ off. losing_on (map_sizes z) g.call from v w 0 t.counts.tally a.memory (steps_made v w) (t.untaken off).0;
           settled = λ off plain. subst (λ (n : ℕ). Replied g.call (reply_at g.call (found_by g sought w.known)) n from w) (sym s.1)
               (subst (λ (o : Option ℕ). Replied g.call (reply_at g.call o) v.known.own.start from w) (sym found_is)
-              (replied_on g.call (reply_at g.call (sought_value z g.call k sought v w e)) v.known.own.start from v w t.counts.since.went.number
-              (t.untaken off).1 (ends_replied z g.call k sought v w e goes.call (goes.going ∙ ap not off)
+              (replied_on g.call (reply_at g.call (sought_value z g.call k sought v w e)) v.known.own.start from v w
+              t.counts.since.went.number (t.untaken off).1 (ends_replied z g.call k sought v w e goes.call (goes.going ∙ ap not off)
               (ap (λ (o : Option ℕ). changes (reply_at g.call o)) (sym found_is) ∙ plain))));
           opened = λ off change. let x = ends_effect z g.call k sought v w e goes.call (goes.going ∙ ap not off)
               (ap (λ (o : Option ℕ). changes (reply_at g.call o)) (sym found_is) ∙ change) in (

@@ -1,5 +1,6 @@
 -- What is known of a going call stays over a stretch of its steps.
-use Rattle.std.proofs.Common.{◌≡◌, ◌≢◌, ◌⊎◌, ℕ, ◌+◌, ◌<◌, ◌≤◌, Bool, true, false, cond, List, [], ◌∷◌, ◌++◌, map, length, refl, sym, ap, ◌∙◌, subst, ⊎_elim, inl, inr}
+use Rattle.std.proofs.Common.{◌≡◌, ◌≢◌, ◌⊎◌, ℕ, ◌+◌, ◌<◌, ◌≤◌, Bool, true, false, cond, List, [], ◌∷◌, ◌++◌, map, length, refl}
+use Rattle.std.proofs.Common.{sym, ap, ◌∙◌, subst, ⊎_elim, inl, inr}
 use Rattle.std.proofs.Common.{Option, Some, None, append_assoc, arith}
 use Rattle.pp_link.specs.declared.layout.Sizes.{Sizes}
 use Rattle.pp_model.specs.declared.Call.{Call}
@@ -107,7 +108,8 @@ tries_on z g lost lost' k from v w t a sum none start = record {
     losing_on z g.call from v w k t.counts.tally a.memory (steps_made v w) u.0,
     unplaced_on from v w t.counts.since.went.number u.1 none,
   );
-  taken = λ on. taken_on z g.call from v w k g.races g.taken v.known.own.start t.counts.tally a.memory t.counts.since a.ran.stepped none (t.taken on);
+  taken = λ on. taken_on z g.call from v w k g.races g.taken v.known.own.start t.counts.tally a.memory
+      t.counts.since a.ran.stepped none (t.taken on);
 }
 
 -- what is known of its purse stays, where no link was written or the call doesn't look only
@@ -151,7 +153,8 @@ part_after z share Known Later g g' v u w p' (Done answer) s stands knows a = re
 }
 
 -- the same records are out, where the pass owns the same ones
-pub out_same : (records : TwoRecords) (q q' : TreePass) (p p' : Purse) → q'.owned ≡ q.owned → p' ≡ p → HasOut q p records → HasOut q' p' records
+pub out_same : (records : TwoRecords) (q q' : TreePass) (p p' : Purse) → q'.owned ≡ q.owned → p' ≡ p → HasOut q p records
+    → HasOut q' p' records
 out_same records q q' p p' owned same out = subst (λ (x : Purse). HasOut q' x records) (sym same) (by records out)
   where
     by : (r : TwoRecords) → HasOut q p r → HasOut q' p r
@@ -182,11 +185,13 @@ missed_lost z share g s v u p p' head c start same from free k =
     }
 
 pub lost_shared : (z : Sizes) (share share' : ℕ) (g g' : TreeGoing) (s : Seek) (v w : TreeView) (p p' : Purse) (result : Turned)
-    → share' ≡ share → Part z share' (HasLost z share' g s v p) g g' v w p' result → Part z share (HasLost z share g s v p) g g' v w p' result
+    → share' ≡ share → Part z share' (HasLost z share' g s v p) g g' v w p' result → Part z share
+    (HasLost z share g s v p) g g' v w p' result
 lost_shared z share share' g g' s v w p p' result same e =
     subst (λ (n : ℕ). Part z n (HasLost z n g s v p) g g' v w p' result) same e
 
 pub missed_shared : (z : Sizes) (share share' : ℕ) (g g' : TreeGoing) (v w : TreeView) (p p' : Purse) (result : Turned)
-    → share' ≡ share → Part z share' (HasMissed z share' g v p) g g' v w p' result → Part z share (HasMissed z share g v p) g g' v w p' result
+    → share' ≡ share → Part z share' (HasMissed z share' g v p) g g' v w p' result → Part z share
+    (HasMissed z share g v p) g g' v w p' result
 missed_shared z share share' g g' v w p p' result same e =
     subst (λ (n : ℕ). Part z n (HasMissed z n g v p) g g' v w p' result) same e

@@ -1,5 +1,6 @@
 -- A turn of a call on a tree that was lost.
-use Rattle.std.proofs.Common.{◌≡◌, ◌≢◌, ℕ, ◌+◌, ◌<◌, ◌≤◌, ◌^◌, Bool, true, false, List, length, map, refl, sym, ap, ◌∙◌, subst, inl, inr, arith, Option, Some, None}
+use Rattle.std.proofs.Common.{◌≡◌, ◌≢◌, ℕ, ◌+◌, ◌<◌, ◌≤◌, ◌^◌, Bool, true, false, List, length, map, refl, sym, ap, ◌∙◌, subst}
+use Rattle.std.proofs.Common.{inl, inr, arith, Option, Some, None}
 use Rattle.std.proofs.lemmas.List.{length-map}
 use Rattle.std.proofs.Math.Bool.{false≢true}
 use Rattle.pp_link.specs.declared.layout.Sizes.{Sizes}
@@ -67,7 +68,8 @@ module _ (z : Sizes) (share : ℕ) (g : TreeGoing) (s : Seek) (v : TreeView) (p 
   )
 
   -- It goes on: its seek is on its way.
-  pub lost_goes : key_of g.call < inf0 → (is_look g.call ≡ true → g.struck ≡ false) → g.lost + 1 < g.races → IsAtRest v.known p → Goes g v.known
+  pub lost_goes : key_of g.call < inf0 → (is_look g.call ≡ true → g.struck ≡ false) → g.lost + 1 < g.races → IsAtRest v.known p
+      → Goes g v.known
       → s.call ≡ g.call → IsSeek v.known s → s.fresh ≡ false → upper_at s.spot ≤ 2 ^ 64
       → Part z share (HasLost z share g s v p) g (record g { lost = g.lost + 1; next = Seeks s }) v v p On
   lost_goes pair looks below rest goes asked seeks on_its_way high = record {
@@ -92,7 +94,8 @@ module _ (z : Sizes) (share : ℕ) (g : TreeGoing) (s : Seek) (v : TreeView) (p 
   pub lost_ends : (g' : TreeGoing) (w : TreeView) (p' : Purse) (result : Turned) → SameGoing g g' → g'.next ≡ Over → g.struck ≡ false
       → g.lost + 1 ≡ g.races → result ≡ Done (Lost (g.lost + 1))
       → Ends z share g.races g.call g.records (Lost (g.lost + 1)) v w p p' → Part z share (HasLost z share g s v p) g g' v w p' result
-  lost_ends g' w p' result same over none all is e = subst (λ (r : Turned). Part z share (HasLost z share g s v p) g g' v w p' r) (sym is) record {
+  lost_ends g' w p' result same over none all is e = subst (λ (r : Turned). Part z share (HasLost z share g s v p) g g' v w p' r)
+      (sym is) record {
     stepped = e.aside.stepped;
     stands = e.aside.stands;
     same = same;
@@ -122,7 +125,8 @@ module _ (z : Sizes) (share : ℕ) (g : TreeGoing) (s : Seek) (v : TreeView) (p 
   pub lost_took : (g' : TreeGoing) (w : TreeView) (p' : Purse) (result : Turned) → SameGoing g g' → g'.next ≡ Over → g.struck ≡ true
       → g.lost + 1 ≡ g.races → result ≡ Done (Said (Took g.taken))
       → Ends z share g.races g.call g.records (Said (Took g.taken)) v w p p' → Part z share (HasLost z share g s v p) g g' v w p' result
-  lost_took g' w p' result same over took all is e = subst (λ (r : Turned). Part z share (HasLost z share g s v p) g g' v w p' r) (sym is) record {
+  lost_took g' w p' result same over took all is e = subst (λ (r : Turned). Part z share (HasLost z share g s v p) g g' v w p' r)
+      (sym is) record {
     stepped = e.aside.stepped;
     stands = e.aside.stands;
     same = same;

@@ -1,5 +1,6 @@
 -- A pass on which no call is going any more.
-use Rattle.std.proofs.Common.{◌≡◌, ◌≢◌, ℕ, zero, suc, ◌+◌, ◌<◌, ◌≤◌, Bool, true, false, List, [], ◌∷◌, length, map, get_or, refl, sym, ap, ◌∙◌, subst, arith}
+use Rattle.std.proofs.Common.{◌≡◌, ◌≢◌, ℕ, zero, suc, ◌+◌, ◌<◌, ◌≤◌, Bool, true, false, List, [], ◌∷◌, length, map, get_or, refl}
+use Rattle.std.proofs.Common.{sym, ap, ◌∙◌, subst, arith}
 use Rattle.std.proofs.Common.{Option, Some, None, ◌++◌}
 use Rattle.std.specs.Prelude.{replicate, nat_eq, ◌||◌}
 use Rattle.pp_link.specs.declared.layout.Sizes.{Sizes}
@@ -51,7 +52,8 @@ plus_one : (xs : List ℕ) (n : ℕ) → length (xs ++ n ∷ []) ≡ length xs +
 plus_one [] n = refl
 plus_one (x ∷ xs) n = let ih = plus_one xs n in omega arith
 
-pub gave_both : (f : Fresh × Fresh) (p q p' : Purse) → p.taken ≡ 2 → GaveBack f.0.number p q → GaveBack f.1.number q p' → GaveBackOut (Some f) p p'
+pub gave_both : (f : Fresh × Fresh) (p q p' : Purse) → p.taken ≡ 2 → GaveBack f.0.number p q → GaveBack f.1.number q p'
+    → GaveBackOut (Some f) p p'
 gave_both f p q p' two a b = record {
   taken = let t = a.taken in let u = b.taken in omega arith;
   long = let x = ap (λ (l : List ℕ). length l) a.free ∙ plus_one p.free.items f.0.number in

@@ -1,5 +1,6 @@
 -- A turn of a call's seek.
-use Rattle.std.proofs.Common.{◌≡◌, ◌≢◌, ◌⊎◌, ℕ, ◌+◌, ◌-◌, ◌*◌, ◌<◌, ◌≤◌, ◌^◌, Bool, true, false, cond, List, [], ◌∷◌, ◌++◌, map, length, refl, sym, ap, ◌∙◌, subst, ⊎_elim, inl, inr}
+use Rattle.std.proofs.Common.{◌≡◌, ◌≢◌, ◌⊎◌, ℕ, ◌+◌, ◌-◌, ◌*◌, ◌<◌, ◌≤◌, ◌^◌, Bool, true, false, cond, List, [], ◌∷◌, ◌++◌, map}
+use Rattle.std.proofs.Common.{length, refl, sym, ap, ◌∙◌, subst, ⊎_elim, inl, inr}
 use Rattle.std.proofs.Common.{Option, Some, None, append_assoc, arith}
 use Rattle.std.specs.Prelude.{not, nat_lt}
 use Rattle.std.proofs.Math.Bool.{false≢true}
@@ -24,7 +25,8 @@ use Rattle.pp_seek.specs.declared.seek.Seek.{Seek}
 use Rattle.pp_seek.specs.declared.seek.Spot.{Spot}
 use Rattle.pp_seek.specs.declared.seek.Sought.{Sought}
 use Rattle.pp_seek.specs.Trails.{Trail, SameCall, reads}
-use Rattle.pp_seek.specs.Seeking.{Seeks as IsSeek, SeeksAt, AtRecord, IsSought, Enters, ComesDown, Loses, FoundInvalid, FoundOther, FoundOutside, WasLost, EndsAtLeaf, WentOn as SeekWentOn}
+use Rattle.pp_seek.specs.Seeking.{Seeks as IsSeek, SeeksAt, AtRecord, IsSought, Enters, ComesDown, Loses, FoundInvalid}
+use Rattle.pp_seek.specs.Seeking.{FoundOther, FoundOutside, WasLost, EndsAtLeaf, WentOn as SeekWentOn}
 use Rattle.pp_trees.specs.Trees.{inf0, inf2, IsRight}
 use Rattle.pp_trees.specs.Searches.{TreePass}
 use Rattle.pp_trees.specs.Edges.{TreeView, end_step}
@@ -42,7 +44,8 @@ use Rattle.pp_tree_calls.specs.declared.going.Next.TheVariants.{Seeks}
 use Rattle.pp_tree_calls.specs.Going.{is_look, upper_at, lower_at, going_of, Begun, Tries, Goes, Stands, Carries, IsUnder}
 use Rattle.pp_tree_calls.specs.Turned.{HasLost, TreeTurned}
 use Rattle.pp_tree_calls.proofs.Lasting.{moved_memory, tries_on}
-use Rattle.pp_tree_calls.proofs.Treading.{some_named, carries_trail, trail_unplaced, rest_on, goes_same, first_tries, next_tries, both_calls}
+use Rattle.pp_tree_calls.proofs.Treading.{some_named, carries_trail, trail_unplaced, rest_on, goes_same, first_tries, next_tries}
+use Rattle.pp_tree_calls.proofs.Treading.{both_calls}
 
 -- a turn that was lost made a step
 pub lost_some : (z : Sizes) (s : Spot) (v w : TreeView) → Loses z s v w → 0 < length (steps_made v w)
@@ -77,7 +80,8 @@ module _ (z : Sizes) (share : ℕ) (g : TreeGoing) (v w : TreeView) (p p' : Purs
       )
 
   -- or came down
-  came_down : (call : Call) (fresh : Bool) (s n : Spot) (next : Next) (from : TreeView) → fresh ≡ false → call ≡ g.call → ComesDown z s n v w
+  came_down : (call : Call) (fresh : Bool) (s n : Spot) (next : Next) (from : TreeView) → fresh ≡ false → call ≡ g.call
+      → ComesDown z s n v w
       → Begun fresh z g (Some s) from v → Trying next (Some n) from
   came_down call true s n next from is asked c b = absurd (false≢true (sym is))
   came_down call false s n next from is asked c b =
@@ -153,7 +157,8 @@ module _ (z : Sizes) (share : ℕ) (g : TreeGoing) (v w : TreeView) (p p' : Purs
         stays = λ on. on;
         strikes = λ off on. absurd (false≢true (sym off ∙ on));
         struck = tt;
-        went = subst (λ (n : Next). WentOn (going_of v.known (record g { next = n })) (going_of w.known (record g { next = Seeks s' }))) (sym at)
+        went = subst (λ (n : Next). WentOn (going_of v.known (record g { next = n }))
+            (going_of w.known (record g { next = Seeks s' }))) (sym at)
             (keys_narrowed refl refl o.narrows);
         goes_on = λ from free u. seek_under s s' was now call went at from free u;
         answered = tt;
@@ -164,7 +169,8 @@ module _ (z : Sizes) (share : ℕ) (g : TreeGoing) (v w : TreeView) (p p' : Purs
       → (from : TreeView) (free : List ℕ) → IsUnder z share g v p from free → HasLost z share g s' w p' from free
   seek_lost s s' was lost at from free u = by s.spot s.fresh was lost (subst (λ (n : Next). Stands z g n from v) at u.stands).1.2
     where
-      by : (spot : Option Spot) (fresh : Bool) → SeeksAt v.known s.call fresh spot → WasLost z spot s'.spot v w → Begun fresh z g spot from v
+      by : (spot : Option Spot) (fresh : Bool) → SeeksAt v.known s.call fresh spot → WasLost z spot s'.spot v w
+          → Begun fresh z g spot from v
           → HasLost z share g s' w p' from free
       by None fresh was lost b = absurd lost
       by (Some x) true was lost b = absurd (false≢true (sym was.begun))

@@ -30,7 +30,8 @@ use Rattle.pp_tree_turns.specs.Turning.{Minds, Walks}
 use Rattle.pp_tree_turns.specs.Walked.{TreeTally}
 use Rattle.pp_tree_turns.specs.Causes.{tree_meaning}
 use Rattle.pp_tree_calls.specs.declared.going.TreeGoing.{TreeGoing}
-use Rattle.pp_tree_calls.specs.Going.{kind_of, spot_of, going_of, upper_at, is_look, Counts, IsLosing, HasTaken, Tries, Goes, Carries, IsUnder}
+use Rattle.pp_tree_calls.specs.Going.{kind_of, spot_of, going_of, upper_at, is_look, Counts, IsLosing, HasTaken, Tries, Goes}
+use Rattle.pp_tree_calls.specs.Going.{Carries, IsUnder}
 use Rattle.pp_tree_calls.specs.Purses.{HasOut}
 
 -- it is the same call, with the same budget

@@ -63,7 +63,8 @@ pub fn end_change(
     requires rest { IsAtRest (known pass.old.seat) pass.old.purse }
     requires out { HasOut (known pass.old.seat) pass.old.purse records }
     ensures same { IsSame pass.old.seat pass.new.seat }
-    ensures tidies { TidiesUp pool.now.layout pass.old.share records (view pass.old.seat) (view pass.new.seat) pass.old.purse pass.new.purse }
+    ensures tidies { TidiesUp pool.now.layout pass.old.share records (view pass.old.seat) (view pass.new.seat)
+        pass.old.purse pass.new.purse }
     ensures resting { IsResting pass.new }
 {
     Seek::again(call).done(pool, pass);

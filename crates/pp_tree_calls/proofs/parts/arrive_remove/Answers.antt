@@ -14,16 +14,19 @@ use Rattle.pp_tree_calls.proofs.Arriving.{arrived_says, found_other, found_flag,
 use Rattle.pp_tree_calls.proofs.parts.arrive_remove.Goals as goal
 
 pub returns-then-not-sought-clause-part : goal.returns-then-not-sought-clause-part
-returns-then-not-sought-clause-part c = let old = c.args.pass.now in let g = c.args.going.now in let s = c.args.sought in let r = c.requires in
+returns-then-not-sought-clause-part c = let old = c.args.pass.now in let g = c.args.going.now in let s = c.args.sought in
+    let r = c.requires in
     let q = known old.seat in let e = c.end in let new = e.new.pass in
     arrived_says c.args.pool.now.layout old.share g s (view old.seat) old.purse (view new.seat) e.new.going new.purse e.result Absent
-    e.ensures.over r.unstruck r.ready.below (remove_absent g.call r.removes.0 (found_by g s q) r.removes.1 (found_other g s q r.ready.sought c.if-not-sought.true)) refl e.ensures.done e.ensures.ended
+    e.ensures.over r.unstruck r.ready.below (remove_absent g.call r.removes.0 (found_by g s q) r.removes.1
+    (found_other g s q r.ready.sought c.if-not-sought.true)) refl e.ensures.done e.ensures.ended
 
 pub returns-then-flag-clause-part : goal.returns-then-flag-clause-part
 returns-then-flag-clause-part c = let old = c.args.pass.now in let g = c.args.going.now in let s = c.args.sought in let r = c.requires in
     let q = known old.seat in let e = c.end-then-flag in let new = e.new.pass in
     arrived_says c.args.pool.now.layout old.share g s (view old.seat) old.purse (view new.seat) e.new.going new.purse e.result Absent
-    e.ensures.over r.unstruck r.ready.below (remove_absent g.call r.removes.0 (found_by g s q) r.removes.1 (found_flag g s q (flag_of s.edge ∙ ap bit (sym c.flag.ensures ∙ c.if-flag.true)))) refl e.ensures.done e.ensures.ended
+    e.ensures.over r.unstruck r.ready.below (remove_absent g.call r.removes.0 (found_by g s q) r.removes.1
+    (found_flag g s q (flag_of s.edge ∙ ap bit (sym c.flag.ensures ∙ c.if-flag.true)))) refl e.ensures.done e.ensures.ended
 
 pub open_removal-requires-clause-takes : goal.open_removal-requires-clause-takes
 open_removal-requires-clause-takes c = remove_takes c.args.going.now.call c.requires.removes.0
