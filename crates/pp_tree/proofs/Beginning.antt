@@ -74,5 +74,5 @@ module _ (z : Sizes) (share : ℕ) (call : Call) (races : ℕ) (g : TreeGoing) (
       alone = λ _. alone_none v p.free.items share;
     };
     stands = subst (λ (n : Next). Stands z g n v v) (sym b.next)
-        (b.seek_call ∙ sym b.call_is, (b.seeks v.known pair empty, (low, waits b.seek.fresh b.seek_fresh)));
+        (b.seek_call ∙ sym b.call_is, (b.seeks v.known pair empty, low, waits b.seek.fresh b.seek_fresh));
   }

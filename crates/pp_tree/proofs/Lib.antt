@@ -1,4 +1,3 @@
-pub mod Starting
 pub mod Beginning
 pub mod Learning
 pub mod Turning

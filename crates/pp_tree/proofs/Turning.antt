@@ -48,7 +48,7 @@ begun_went z true g spot from v b = b.0.went
 begun_went z false g spot from v b = b.0.counts.since.went
 
 stood_went : (z : Sizes) (g : TreeGoing) (n : Next) (from v : TreeView) → Stands z g n from v → Went from v
-stood_went z g (Seeks s) from v x = begun_went z s.fresh g s.spot from v x.1.1.1
+stood_went z g (Seeks s) from v x = begun_went z s.fresh g s.spot from v x.1.2
 stood_went z g (Publishes s) from v x = x.0.counts.since.went
 stood_went z g (Flags s) from v x = x.0.counts.since.went
 stood_went z g (Tags s side) from v x = x.0.counts.since.went
@@ -69,7 +69,7 @@ module _ (z : Sizes) (share : ℕ) (g : TreeGoing) (from w : TreeView) (free fre
   begun_counts false spot b = tried_counts b.0
 
   stood_counts : (n : Next) → Stands z g n from w → Shown
-  stood_counts (Seeks s) x = begun_counts s.fresh s.spot x.1.1.1
+  stood_counts (Seeks s) x = begun_counts s.fresh s.spot x.1.2
   stood_counts (Publishes s) x = tried_counts x.0
   stood_counts (Flags s) x = tried_counts x.0
   stood_counts (Tags s side) x = tried_counts x.0
