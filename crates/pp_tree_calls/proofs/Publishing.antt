@@ -1,5 +1,5 @@
 -- The turn in which an insert publishes its two records.
-use Rattle.std.proofs.Common.{◌≡◌, ◌≢◌, ℕ, ◌+◌, ◌<◌, ◌≤◌, Bool, true, false, List, [], ◌∷◌, ◌++◌, map, length, refl, sym, ap, ◌∙◌, subst}
+use Rattle.std.proofs.Common.{◌≡◌, ◌≢◌, ℕ, ◌+◌, ◌-◌, ◌<◌, ◌≤◌, Bool, true, false, List, [], ◌∷◌, ◌++◌, map, length, refl, sym, ap, ◌∙◌, subst}
 use Rattle.std.proofs.Common.{Option, Some, None, arith}
 use Rattle.std.specs.Prelude.{not}
 use Rattle.std.proofs.Math.Bool.{false≢true}
@@ -13,6 +13,7 @@ use Rattle.pp_model.specs.declared.Turned.{Turned}
 use Rattle.pp_model.specs.declared.steps.Step.{Step}
 use Rattle.pp_rule.specs.Orders.{log_of}
 use Rattle.pp_pool.specs.declared.fresh.Fresh.{Fresh}
+use Rattle.pp_pool.specs.Taken.{one_fewer_out}
 use Rattle.pp_base.specs.declared.purse.Purse.{Purse}
 use Rattle.pp_base.specs.Passes.{owned_numbers}
 use Rattle.pp_calls.specs.Steps.{Stepped}
@@ -74,6 +75,20 @@ same_fresh a b first second = let one : a.0 ≡ b.0 = ap (λ (n : ℕ). fresh n)
 
     both : Fresh → Fresh → Fresh × Fresh
     both x y = (x, y)
+
+-- the call, by the pair that it is to add
+pub call_by_pair : (call : Call) (k v a b : ℕ) → call ≡ Insert k v → a ≡ k → b ≡ v → call ≡ Insert a b
+call_by_pair call k v a b is key value = is ∙ (ap (λ (n : ℕ). Insert n v) (sym key) ∙ ap (λ (n : ℕ). Insert a n) (sym value))
+
+pub next_by_pair : (q : TreePass) (s : Sought) (k v a b : ℕ) → a ≡ k → b ≡ v → PublishesNext q s k v → PublishesNext q s a b
+next_by_pair q s k v a b key value n = subst (λ (x : ℕ). PublishesNext q s a x) (sym value)
+    (subst (λ (x : ℕ). PublishesNext q s x v) (sym key) n)
+
+-- both records are spent
+pub spent_out : (q : TreePass) (p p' : Purse) (records : TwoRecords) → records ≡ None → p' ≡ one_fewer_out (one_fewer_out p) → p.taken ≡ 2
+    → HasOut q p' records
+spent_out q p p' records bare spent two = subst (λ (r : TwoRecords). HasOut q p' r) (sym bare)
+    (ap (λ (x : Purse). x.taken) spent ∙ omega (arith, two))
 
 -- the same with the records that the call has
 abbrev pub with_records : TreeGoing → Fresh × Fresh → TreeGoing

@@ -246,6 +246,12 @@ scan_long : (scan : List Step) → owned_after 2 scan < 2 → 0 < length scan
 scan_long [] few = absurd (omega arith)
 scan_long (s ∷ scan) few = omega arith
 
+-- a pass that has no record out owns as many as are free
+pub full_owned : (z : Sizes) (share : ℕ) (u w : TreeView) (q p' : Purse) → PutsAway z share u w q p' → length q.free.items < 2
+    → length w.known.owned ≤ length p'.free.items + p'.taken → p'.taken ≡ 0 → length w.known.owned < 2
+full_owned z share u w q p' l few counted none = let e = ap (λ (y : List ℕ). length y) l.begins.1 in
+    let b = length-append p'.free.items l.begins.0 in omega arith
+
 -- It found too few, and was answered.
 module _ (z : Sizes) (share : ℕ) (g : TreeGoing) (s : Sought) (v u w : TreeView) (p q p' : Purse) (at : g.next ≡ Publishes s)
     (sizes : w.known.sizes ≡ v.known.sizes) (t : TakesNone z g.records v u p q) (l : PutsAway z share u w q p')
