@@ -234,8 +234,8 @@ few_left zero (x ∷ []) middle last few a b kept = (last, refl)
 few_left (suc share) (x ∷ []) middle last few a b kept = let one : min 1 (suc share) ≡ 1 = omega arith in
     subst (λ (n : ℕ). IsPrefix (take n (x ∷ [])) last) (sym one) (by last b kept)
   where
-    long : length middle ≡ 1 + length a.0
-    long = ap (λ (l : List ℕ). length l) a.1
+    long : 1 ≤ length middle
+    long = let e = ap (λ (l : List ℕ). length l) a.1 in let b = length-append (x ∷ []) a.0 in omega arith
 
     by : (last : List ℕ) → BeginsWith middle last → min (suc share) (length middle) ≤ length last → IsPrefix (x ∷ []) last
     by [] b kept = absurd (omega (arith, long, kept))

@@ -3,6 +3,7 @@ use Rattle.std.proofs.Math.Bool.{false≢true}
 use Rattle.pp_model.specs.declared.Answer.TheVariants.{Said}
 use Rattle.pp_model.specs.declared.Call.{Call}
 use Rattle.pp_model.specs.declared.Reply.TheVariants.{Added}
+use Rattle.pp_pool.specs.declared.fresh.Fresh.{Fresh}
 use Rattle.pp_base.specs.Passes.{known, view}
 use Rattle.pp_base.specs.declared.purse.Purse.{Purse}
 use Rattle.pp_calls.proofs.Purses.{same_share}
@@ -28,7 +29,7 @@ publish_turn-requires-clause-apart c = c.requires.under.1.1.carries.out.2
 pub publish_turn-requires-clause-may : goal.publish_turn-requires-clause-may
 publish_turn-requires-clause-may c = let x = c.requires.under in let old = c.args.pass.now in
     let m = may_publish c.args.pool.now.layout (with_records c.args.going.now c.args.records) c.args.sought x.0 (view old.seat) c.requires.at
-    x.1.1.stands in let pair = c.pair_of.result in let both = c.pair_of.ensures.pair m.key m.value m.call in
+    x.1.1.stands in let pair = c.pair_of-key.result in let both = c.pair_of-key.ensures.pair m.key m.value m.call in
     next_by_pair (known old.seat) c.args.sought m.key m.value pair.0 pair.1 both.0 both.1 m.next
 
 pub end-requires-clause-out : goal.end-requires-clause-out
@@ -42,8 +43,8 @@ end-requires-clause-none c = λ looks. c.requires.bare
 pub returns-in-Done-clause-turned : goal.returns-in-Done-clause-turned
 returns-in-Done-clause-turned c = let z = c.args.pool.now.layout in let old = c.args.pass.now in let mid = c.publish_turn.new.pass in
     let g = c.args.going.now in let s = c.args.sought in let f = c.args.records in let x = c.requires.under in
-    let m = may_publish z (with_records g f) s x.0 (view old.seat) c.requires.at x.1.1.stands in let pair = c.pair_of.result in
-    let both = c.pair_of.ensures.pair m.key m.value m.call in
+    let m = may_publish z (with_records g f) s x.0 (view old.seat) c.requires.at x.1.1.stands in let pair = c.pair_of-key.result in
+    let both = c.pair_of-key.ensures.pair m.key m.value m.call in
     let call = call_by_pair g.call m.key m.value pair.0 pair.1 m.call both.0 both.1 in let e = c.end in let new = e.new.pass in
     let free = ap (λ (p : Purse). p.free) (c.publish_turn.ensures.spent c.in-Done.is) in
     let share = same_share 5 2 old.seat mid.seat _ _ _ _ _ _ _ _ old.keeping mid.keeping c.publish_turn.ensures.same in
@@ -57,7 +58,7 @@ returns-in-Done-clause-turned c = let z = c.args.pool.now.layout in let old = c.
 
 pub lose_again-requires-clause-out : goal.lose_again-requires-clause-out
 lose_again-requires-clause-out c = let z = c.args.pool.now.layout in let old = c.args.pass.now in let mid = c.publish_turn.new.pass in
-    let f = c.args.records in let f' = (c.in-Changed.leaf, c.in-Changed.inner) in let missed = c.in-Changed.ensures.published in
+    let f = c.args.records in let f' : Fresh × Fresh = (c.in-Changed.leaf, c.in-Changed.inner) in let missed = c.in-Changed.ensures.published in
     publish_out z old.share c.args.going.now c.args.sought f (view old.seat) (view mid.seat) old.purse c.requires.at f'
     (same_fresh f' f missed.1 missed.2) missed.0 mid.purse (c.publish_turn.ensures.kept (λ done. absurd cc)) c.requires.under.1.1.carries.out
 
@@ -81,7 +82,7 @@ pub returns-in-Changed-clause-turned : goal.returns-in-Changed-clause-turned
 returns-in-Changed-clause-turned c = let z = c.args.pool.now.layout in let old = c.args.pass.now in let mid = c.publish_turn.new.pass in
     let g = c.args.going.now in let s = c.args.sought in let f = c.args.records in let x = c.requires.under in
     let m = may_publish z (with_records g f) s x.0 (view old.seat) c.requires.at x.1.1.stands in let l = c.lose_again in let new = l.new.pass in
-    let f' = (c.in-Changed.leaf, c.in-Changed.inner) in let missed = c.in-Changed.ensures.published in
+    let f' : Fresh × Fresh = (c.in-Changed.leaf, c.in-Changed.inner) in let missed = c.in-Changed.ensures.published in
     missed_turned z old.share g s f (view old.seat) (view mid.seat) old.purse c.requires.at f' (same_fresh f' f missed.1 missed.2) missed.0
     mid.purse (c.publish_turn.ensures.kept (λ done. absurd cc)) l.new.going (view new.seat) new.purse l.result
     (missed_shared z old.share mid.share (with_records g f') l.new.going (view mid.seat) (view new.seat) mid.purse new.purse l.result
