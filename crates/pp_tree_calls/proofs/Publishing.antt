@@ -1,39 +1,35 @@
 -- The turn in which an insert publishes its two records.
-use Rattle.std.proofs.Common.{◌≡◌, ◌≢◌, ℕ, ◌+◌, ◌-◌, ◌<◌, ◌≤◌, Bool, true, false, List, [], ◌∷◌, ◌++◌, map, length, refl, sym, ap, ◌∙◌, subst}
-use Rattle.std.proofs.Common.{Option, Some, None, arith}
-use Rattle.std.specs.Prelude.{not}
+use Rattle.std.proofs.Common.{◌≡◌, ℕ, true, false, List, [], length, refl, sym, ap, ◌∙◌, subst}
+use Rattle.std.proofs.Common.{Some, None, arith}
 use Rattle.std.proofs.Math.Bool.{false≢true}
 use Rattle.pp_link.specs.declared.layout.Sizes.{Sizes}
 use Rattle.pp_model.specs.declared.Answer.TheVariants.{Said}
 use Rattle.pp_model.specs.declared.Call.{Call}
 use Rattle.pp_model.specs.declared.Call.TheVariants.{Insert}
-use Rattle.pp_model.specs.declared.Reply.{Reply}
-use Rattle.pp_model.specs.declared.Reply.TheVariants.{Added, Took}
+use Rattle.pp_model.specs.declared.Reply.TheVariants.{Added}
 use Rattle.pp_model.specs.declared.Turned.{Turned}
-use Rattle.pp_model.specs.declared.steps.Step.{Step}
 use Rattle.pp_rule.specs.Orders.{log_of}
 use Rattle.pp_pool.specs.declared.fresh.Fresh.{Fresh}
 use Rattle.pp_pool.specs.Taken.{one_fewer_out}
 use Rattle.pp_base.specs.declared.purse.Purse.{Purse}
-use Rattle.pp_base.specs.Passes.{owned_numbers}
 use Rattle.pp_calls.specs.Steps.{Stepped}
 use Rattle.pp_shelf.specs.Runs.{map_sizes, steps_made}
 use Rattle.pp_seek.specs.declared.seek.Sought.{Sought}
 use Rattle.pp_trees.specs.Searches.{TreePass}
 use Rattle.pp_trees.specs.Edges.{TreeView, publish_step}
-use Rattle.pp_turns.specs.Tallies.{losing, effected, lost_of, memory_of}
+use Rattle.pp_turns.specs.Tallies.{losing, lost_of, memory_of}
 use Rattle.pp_turns.specs.Turns.{Since, Unplaced, Struck, WasAbsent}
 use Rattle.pp_turns.proofs.Placing.{struck_on, struck_later}
 use Rattle.pp_turns.proofs.Stretches.{saw_last, since_on}
 use Rattle.pp_tree_turns.specs.Walked.{tree_reader, TreeTally}
-use Rattle.pp_tree_turns.specs.Filling.{OwnsAlike, PublishesNext, NotPublished, Publishes as PublishesPair}
+use Rattle.pp_tree_turns.specs.Filling.{PublishesNext, NotPublished, Publishes as PublishesPair}
 use Rattle.pp_tree_turns.proofs.Counting.{TakesEffect, struck_walk, not_published_walks, publish_strikes}
 use Rattle.pp_tree_calls.specs.declared.going.TreeGoing.{TreeGoing}
 use Rattle.pp_tree_calls.specs.declared.going.Next.{Next}
 use Rattle.pp_tree_calls.specs.declared.going.Next.TheVariants.{Publishes}
 use Rattle.pp_tree_calls.specs.Purses.{TwoRecords, HasOut, out_of}
-use Rattle.pp_tree_calls.specs.Going.{is_look, kind_of, IsLosing, Tries, Goes, Stands, IsUnder}
-use Rattle.pp_tree_calls.specs.Answers.{MayEnd, Ends, spends_of}
+use Rattle.pp_tree_calls.specs.Going.{is_look, IsLosing, Tries, Goes, Stands, IsUnder}
+use Rattle.pp_tree_calls.specs.Answers.{MayEnd, spends_of}
 use Rattle.pp_tree_calls.specs.Turned.{Part, HasMissed, TreeTurned}
 use Rattle.pp_tree_calls.proofs.Exchanged.{some_in, out_free, has_missed}
 use Rattle.pp_tree_calls.proofs.Treading.{turned_by}
@@ -182,7 +178,10 @@ module _ (z : Sizes) (share : ℕ) (g : TreeGoing) (s : Sought) (f : Fresh × Fr
   added_turned k value call bare e q same sizes g' w p' result stepped none part =
       turned_by z share (with_records g f) (record g { struck = true }) g' v u w p p' result
       (λ from free. MayEnd z share g.races g.call g.records (Said Added) from u free q) refl refl refl refl (λ on. refl)
-      (λ off on. (Added, struck_later g.call Added v u w e.names.stepped.number stepped.order
-      (subst (λ (c : Call). Struck c Added v u) (sym call) e.struck) none)) e.names.stepped
+      (λ off on. (
+        Added,
+        struck_later g.call Added v u w e.names.stepped.number stepped.order
+            (subst (λ (c : Call). Struck c Added v u) (sym call) e.struck) none,
+      )) e.names.stepped
       (some_in e.before _ _ (steps_made v u) e.names.named) e.names.stands
       (λ from free under. publish_may k value call bare e q same sizes from free under) part

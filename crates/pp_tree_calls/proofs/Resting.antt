@@ -1,7 +1,7 @@
 -- A pass on which no call is going any more.
-use Rattle.std.proofs.Common.{◌≡◌, ◌≢◌, ℕ, zero, suc, ◌+◌, ◌<◌, ◌≤◌, Bool, true, false, List, [], ◌∷◌, length, map, get_or, refl}
+use Rattle.std.proofs.Common.{◌≡◌, ℕ, zero, suc, ◌+◌, ◌<◌, ◌≤◌, Bool, true, false, List, [], ◌∷◌, length, map, get_or, refl}
 use Rattle.std.proofs.Common.{sym, ap, ◌∙◌, subst, arith}
-use Rattle.std.proofs.Common.{Option, Some, None, ◌++◌, ◌⊎◌, min}
+use Rattle.std.proofs.Common.{Some, ◌++◌, ◌⊎◌, min}
 use Rattle.std.specs.Prelude.{replicate, nat_eq, ◌||◌}
 use Rattle.pp_link.specs.declared.layout.Sizes.{Sizes}
 use Rattle.pp_pool.specs.declared.fresh.Fresh.{Fresh}
@@ -11,13 +11,11 @@ use Rattle.pp_rule.specs.declared.views.Chain.{Chain}
 use Rattle.pp_rule.specs.declared.views.WalkSlot.{WalkSlot}
 use Rattle.pp_rule.specs.Steps.{IsUnused}
 use Rattle.pp_rule.specs.Orders.{clear_step, write_step}
-use Rattle.pp_rule.specs.Views.{slot, blank}
+use Rattle.pp_rule.specs.Views.{blank}
 use Rattle.pp_base.specs.declared.purse.Purse.{Purse}
-use Rattle.pp_base.specs.Passes.{named_of, IsAtRest, in_hand_of}
-use Rattle.pp_base.specs.declared.purse.InHand.{InHand}
-use Rattle.pp_base.specs.Named.{NamedStep}
+use Rattle.pp_base.specs.Passes.{named_of, IsAtRest}
 use Rattle.pp_purse.specs.Steps.{is_purse_step}
-use Rattle.pp_seek.specs.Trails.{SameRest, Clears, IsEmpty}
+use Rattle.pp_seek.specs.Trails.{SameRest, Clears}
 use Rattle.pp_seek.specs.Seeking.{AllEmpty}
 use Rattle.pp_trees.specs.Searches.{TreePass}
 use Rattle.pp_trees.specs.Edges.{TreeView}
@@ -27,9 +25,9 @@ use Rattle.pp_rule.specs.Causes.{FoundTaken}
 use Rattle.pp_rule.specs.Lists.{BeginsWith}
 use Rattle.pp_shelf.specs.Runs.{map_sizes, steps_made, MadeAtShelves}
 use Rattle.pp_shelf.specs.Shelves.{MovesFree}
-use Rattle.pp_turns.specs.Causes.{is_aside, Aside}
+use Rattle.pp_turns.specs.Causes.{Aside}
 use Rattle.pp_turns.proofs.Aside.{aside_made}
-use Rattle.pp_tree_calls.specs.Purses.{TwoRecords, HasOut, GaveBackOut, PutsAway, out_of}
+use Rattle.pp_tree_calls.specs.Purses.{HasOut, GaveBackOut, PutsAway}
 
 -- No scan is under way and no frontier word is in use but for a chain, where the same is known of them.
 pub rest_kept : (q q' : TreePass) (p p' : Purse) → SameRest q q' → p'.spent ≡ p.spent → IsAtRest q p → IsAtRest q' p'

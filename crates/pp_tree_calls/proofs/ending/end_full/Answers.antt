@@ -1,4 +1,4 @@
-use Rattle.std.proofs.Common.{ℕ, ◌≡◌, refl, sym, ap, ◌∙◌, subst}
+use Rattle.std.proofs.Common.{ℕ, sym, ap, ◌∙◌, subst}
 use Rattle.pp_base.specs.Passes.{known, view, IsAtRest}
 use Rattle.pp_base.specs.declared.purse.Purse.{Purse}
 use Rattle.pp_calls.proofs.Purses.{same_share}
@@ -7,7 +7,8 @@ use Rattle.pp_tree_calls.proofs.Resting.{rest_kept, walk_zero, puts_away}
 use Rattle.pp_tree_calls.proofs.ending.end_full.Goals as goal
 
 pub returns-clause-puts : goal.returns-clause-puts
-returns-clause-puts c = let old = c.args.pass.now in let mid = c.done.new.pass in let tidy = c.tidy.new.pass in let new = c.set_going.new.pass in
+returns-clause-puts c = let old = c.args.pass.now in let mid = c.done.new.pass in let tidy = c.tidy.new.pass in
+    let new = c.set_going.new.pass in
     let share = same_share 5 2 old.seat mid.seat _ _ _ _ _ _ _ _ old.keeping mid.keeping c.done.ensures.same in
     subst (λ s. PutsAway c.args.pool.now.layout old.share (view old.seat) (view s) old.purse new.purse) (sym c.set_going.ensures.seat)
     (subst (λ (n : ℕ). PutsAway c.args.pool.now.layout n (view old.seat) (view tidy.seat) old.purse new.purse) share
@@ -16,7 +17,8 @@ returns-clause-puts c = let old = c.args.pass.now in let mid = c.done.new.pass i
     c.tidy.ensures.share (ap (λ (p : Purse). p.free) c.set_going.ensures.purse)))
 
 pub returns-clause-resting : goal.returns-clause-resting
-returns-clause-resting c = let old = c.args.pass.now in let mid = c.done.new.pass in let tidy = c.tidy.new.pass in let new = c.set_going.new.pass in
+returns-clause-resting c = let old = c.args.pass.now in let mid = c.done.new.pass in let tidy = c.tidy.new.pass in
+    let new = c.set_going.new.pass in
     let purse = c.set_going.ensures.purse in let only = c.tidy.ensures.only in
     let rest = only.rest (rest_kept (known old.seat) (known mid.seat) old.purse mid.purse c.done.ensures.clears.trail.rest
     (ap (λ p. p.spent) c.done.ensures.purse) c.requires.rest) in record {

@@ -1,7 +1,5 @@
-use Rattle.std.proofs.Common.{◌≡◌, ◌<◌, ◌+◌, ◌≤◌, ℕ, length, Option, Some, None, refl, sym, ap, ◌∙◌, subst, arith}
-use Rattle.pp_pool.specs.declared.fresh.Fresh.{Fresh}
+use Rattle.std.proofs.Common.{◌≡◌, ℕ, sym, ◌∙◌, subst}
 use Rattle.pp_base.specs.Passes.{known, view}
-use Rattle.pp_base.specs.declared.purse.Purse.{Purse}
 use Rattle.pp_model.specs.declared.Turned.{Turned}
 use Rattle.pp_calls.proofs.Purses.{same_share}
 use Rattle.pp_tree_calls.specs.declared.going.Next.TheVariants.{Over}
@@ -17,11 +15,16 @@ pub put_in-requires-clause-under : goal.put_in-requires-clause-under
 put_in-requires-clause-under c = let z = c.args.pool.now.layout in let g = c.args.going.now in let old = c.args.pass.now in
     let mid = c.take_records.new.pass in let x = c.requires.under in let f = c.in-Some.records in
     let takes = subst (λ (h : TwoRecords). TakesTwo z h f (view old.seat) (view mid.seat) old.purse mid.purse) c.take-had.ensures.value
-    c.in-Some.ensures.some in (x.0, (x.1.0,
-      subst (λ (n : ℕ). IsUnder z n (with_records g f) (view mid.seat) mid.purse x.0 x.1.0)
-          (sym (same_share 5 2 old.seat mid.seat _ _ _ _ _ _ _ _ old.keeping mid.keeping c.take_records.ensures.same))
-          (has_records z old.share g c.args.sought f (view old.seat) (view mid.seat) old.purse mid.purse c.requires.at
-          c.take_records.ensures.same.sizes takes c.take_records.ensures.rest x.0 x.1.0 x.1.1)))
+    c.in-Some.ensures.some in (
+      x.0,
+      (
+        x.1.0,
+        subst (λ (n : ℕ). IsUnder z n (with_records g f) (view mid.seat) mid.purse x.0 x.1.0)
+            (sym (same_share 5 2 old.seat mid.seat _ _ _ _ _ _ _ _ old.keeping mid.keeping c.take_records.ensures.same))
+            (has_records z old.share g c.args.sought f (view old.seat) (view mid.seat) old.purse mid.purse c.requires.at
+            c.take_records.ensures.same.sizes takes c.take_records.ensures.rest x.0 x.1.0 x.1.1),
+      ),
+    )
 
 pub returns-in-Some-clause-turned : goal.returns-in-Some-clause-turned
 returns-in-Some-clause-turned c = let z = c.args.pool.now.layout in let g = c.args.going.now in let old = c.args.pass.now in

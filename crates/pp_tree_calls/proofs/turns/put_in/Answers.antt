@@ -1,19 +1,15 @@
-use Rattle.std.proofs.Common.{◌≡◌, ℕ, true, false, None, Some, refl, sym, ap, ◌∙◌, subst}
+use Rattle.std.proofs.Common.{true, refl, sym, ap, ◌∙◌}
 use Rattle.std.proofs.Math.Bool.{false≢true}
 use Rattle.pp_model.specs.declared.Answer.TheVariants.{Said}
-use Rattle.pp_model.specs.declared.Call.{Call}
 use Rattle.pp_model.specs.declared.Reply.TheVariants.{Added}
 use Rattle.pp_pool.specs.declared.fresh.Fresh.{Fresh}
 use Rattle.pp_base.specs.Passes.{known, view}
 use Rattle.pp_base.specs.declared.purse.Purse.{Purse}
 use Rattle.pp_calls.proofs.Purses.{same_share}
-use Rattle.pp_tree_turns.specs.Filling.{PublishesNext}
-use Rattle.pp_tree_calls.specs.Purses.{HasOut}
-use Rattle.pp_tree_calls.specs.Turned.{Part, HasMissed, TreeTurned}
 use Rattle.pp_tree_calls.proofs.Lasting.{missed_shared}
 use Rattle.pp_tree_calls.proofs.Arriving.{ends_as}
 use Rattle.pp_tree_calls.proofs.Exchanged.{end_part}
-use Rattle.pp_tree_calls.proofs.Publishing.{MayPublish, may_publish, insert_changes, same_fresh, call_by_pair, next_by_pair, spent_out}
+use Rattle.pp_tree_calls.proofs.Publishing.{may_publish, insert_changes, same_fresh, call_by_pair, next_by_pair, spent_out}
 use Rattle.pp_tree_calls.proofs.Publishing.{with_records, publish_goes, publish_out, missed_turned, added_turned}
 use Rattle.pp_tree_calls.proofs.turns.put_in.Goals as goal
 
@@ -28,7 +24,8 @@ publish_turn-requires-clause-apart c = c.requires.under.1.1.carries.out.2
 
 pub publish_turn-requires-clause-may : goal.publish_turn-requires-clause-may
 publish_turn-requires-clause-may c = let x = c.requires.under in let old = c.args.pass.now in
-    let m = may_publish c.args.pool.now.layout (with_records c.args.going.now c.args.records) c.args.sought x.0 (view old.seat) c.requires.at
+    let m = may_publish c.args.pool.now.layout (with_records c.args.going.now c.args.records) c.args.sought x.0 (view old.seat)
+    c.requires.at
     x.1.1.stands in let pair = c.pair_of-key.result in let both = c.pair_of-key.ensures.pair m.key m.value m.call in
     next_by_pair (known old.seat) c.args.sought m.key m.value pair.0 pair.1 both.0 both.1 m.next
 
@@ -58,9 +55,11 @@ returns-in-Done-clause-turned c = let z = c.args.pool.now.layout in let old = c.
 
 pub lose_again-requires-clause-out : goal.lose_again-requires-clause-out
 lose_again-requires-clause-out c = let z = c.args.pool.now.layout in let old = c.args.pass.now in let mid = c.publish_turn.new.pass in
-    let f = c.args.records in let f' : Fresh × Fresh = (c.in-Changed.leaf, c.in-Changed.inner) in let missed = c.in-Changed.ensures.published in
+    let f = c.args.records in let f' : Fresh × Fresh = (c.in-Changed.leaf, c.in-Changed.inner) in
+    let missed = c.in-Changed.ensures.published in
     publish_out z old.share c.args.going.now c.args.sought f (view old.seat) (view mid.seat) old.purse c.requires.at f'
-    (same_fresh f' f missed.1 missed.2) missed.0 mid.purse (c.publish_turn.ensures.kept (λ done. absurd cc)) c.requires.under.1.1.carries.out
+    (same_fresh f' f missed.1 missed.2) missed.0 mid.purse (c.publish_turn.ensures.kept (λ done. absurd cc))
+    c.requires.under.1.1.carries.out
 
 pub lose_again-requires-clause-none : goal.lose_again-requires-clause-none
 lose_again-requires-clause-none c = let x = c.requires.under in let g = with_records c.args.going.now c.args.records in
@@ -75,13 +74,15 @@ pub lose_again-requires-clause-goes : goal.lose_again-requires-clause-goes
 lose_again-requires-clause-goes c = let x = c.requires.under in let g = c.args.going.now in let f = c.args.records in
     let old = c.args.pass.now in let mid = c.publish_turn.new.pass in let z = c.args.pool.now.layout in
     let m = may_publish z (with_records g f) c.args.sought x.0 (view old.seat) c.requires.at x.1.1.stands in
-    publish_goes z old.share g c.args.sought f (view old.seat) (view mid.seat) old.purse c.requires.at (c.in-Changed.leaf, c.in-Changed.inner)
+    publish_goes z old.share g c.args.sought f (view old.seat) (view mid.seat) old.purse c.requires.at
+    (c.in-Changed.leaf, c.in-Changed.inner)
     c.in-Changed.ensures.published.0 m.goes
 
 pub returns-in-Changed-clause-turned : goal.returns-in-Changed-clause-turned
 returns-in-Changed-clause-turned c = let z = c.args.pool.now.layout in let old = c.args.pass.now in let mid = c.publish_turn.new.pass in
     let g = c.args.going.now in let s = c.args.sought in let f = c.args.records in let x = c.requires.under in
-    let m = may_publish z (with_records g f) s x.0 (view old.seat) c.requires.at x.1.1.stands in let l = c.lose_again in let new = l.new.pass in
+    let m = may_publish z (with_records g f) s x.0 (view old.seat) c.requires.at x.1.1.stands in let l = c.lose_again in
+    let new = l.new.pass in
     let f' : Fresh × Fresh = (c.in-Changed.leaf, c.in-Changed.inner) in let missed = c.in-Changed.ensures.published in
     missed_turned z old.share g s f (view old.seat) (view mid.seat) old.purse c.requires.at f' (same_fresh f' f missed.1 missed.2) missed.0
     mid.purse (c.publish_turn.ensures.kept (λ done. absurd cc)) l.new.going (view new.seat) new.purse l.result
