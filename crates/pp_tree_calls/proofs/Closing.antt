@@ -1,35 +1,33 @@
 -- A call on a tree that is ended meets its clauses.
-use Rattle.std.proofs.Common.{◌≡◌, ◌≢◌, ◌⊎◌, ℕ, ◌+◌, ◌-◌, ◌*◌, ◌<◌, ◌≤◌, min, Bool, true, false, cond, List, [], ◌∷◌, ◌++◌, map}
+use Rattle.std.proofs.Common.{◌≡◌, ◌≢◌, ℕ, ◌+◌, ◌-◌, ◌≤◌, Bool, true, false, List, ◌++◌}
 use Rattle.std.proofs.Common.{length, refl, sym, ap, ◌∙◌}
-use Rattle.std.proofs.Common.{subst, ⊎_elim, inl, inr, Option, Some, None, append_assoc, length-append, arith}
+use Rattle.std.proofs.Common.{subst, ⊎_elim, inl, inr, append_assoc, length-append, arith}
 use Rattle.pp_link.specs.declared.layout.Sizes.{Sizes}
 use Rattle.pp_model.specs.declared.Answer.{Answer}
 use Rattle.pp_model.specs.declared.Answer.TheVariants.{Said, Full, Lost}
 use Rattle.pp_model.specs.declared.Call.{Call}
 use Rattle.pp_model.specs.declared.Call.TheVariants.{Get, Insert, Remove, Cut}
 use Rattle.pp_model.specs.declared.Reply.{Reply}
-use Rattle.pp_model.specs.declared.Reply.TheVariants.{Took}
 use Rattle.pp_model.specs.declared.steps.Step.{Step}
 use Rattle.pp_model.specs.declared.steps.OrderEntry.{OrderEntry}
 use Rattle.pp_model.specs.declared.Change.{Change}
 use Rattle.pp_model.specs.Calls.{changes}
 use Rattle.pp_model.specs.MapCalls.{LeftAlone, LeavesPurse, Tidied, AnswersCall}
-use Rattle.pp_model.specs.Pass.{MapSizes, steps_of, replayed}
+use Rattle.pp_model.specs.Pass.{steps_of, replayed}
 use Rattle.pp_rule.specs.Causes.{WasDetached, memory_after}
 use Rattle.pp_rule.specs.Lists.{IsIn}
-use Rattle.pp_rule.specs.Orders.{made_by, entries_of, clear_step}
+use Rattle.pp_rule.specs.Orders.{made_by, entries_of}
 use Rattle.pp_rule.proofs.Histories.{entries_append}
 use Rattle.pp_base.specs.declared.purse.Purse.{Purse}
-use Rattle.pp_base.specs.Named.{NamedStep, name_of}
+use Rattle.pp_base.specs.Named.{NamedStep}
 use Rattle.pp_calls.specs.PoolViews.{pool_view, is_writing}
 use Rattle.pp_calls.specs.Steps.{Went, Stepped, StandsThen, WriteNone}
 use Rattle.pp_calls.proofs.Growing.{kinds_none, went_on}
 use Rattle.pp_shelf.specs.Runs.{map_sizes, steps_made}
 use Rattle.pp_seek.specs.Trails.{Clears}
 use Rattle.pp_trees.specs.Edges.{TreeView}
-use Rattle.pp_purse.specs.Purses.{TidiesPurse}
-use Rattle.pp_turns.specs.Tallies.{Tally, losing, effected}
-use Rattle.pp_turns.specs.Turns.{Ran, Since, Unplaced, Struck, Replied, SawLast, Kept}
+use Rattle.pp_turns.specs.Tallies.{losing, effected}
+use Rattle.pp_turns.specs.Turns.{Since, SawLast, Kept}
 use Rattle.pp_turns.specs.Causes.{TookBy, Aside}
 use Rattle.pp_turns.proofs.Aside.{aside_at_purse, aside_both, counts_losing, counts_effected}
 use Rattle.pp_turns.proofs.Answering.{says_plain, says_struck, gave_up}
@@ -41,8 +39,8 @@ use Rattle.pp_tree_turns.specs.Causes.{tree_words, tree_causes, tree_meaning, Ho
 use Rattle.pp_tree_turns.proofs.Counting.{flagged_on, elsewhere_on}
 use Rattle.pp_tree_turns.proofs.Reading.{tree_over}
 use Rattle.pp_tree_calls.specs.Going.{is_look}
-use Rattle.pp_tree_calls.specs.Purses.{TwoRecords, LooksAway, TidiesUp, out_of}
-use Rattle.pp_tree_calls.specs.Answers.{Leaves, SaysPlain, SaysStruck, GivesUp, SaysBy, AnswersBy, spends_of, MayEnd, Ends}
+use Rattle.pp_tree_calls.specs.Purses.{TwoRecords, TidiesUp, out_of}
+use Rattle.pp_tree_calls.specs.Answers.{Leaves, SaysPlain, SaysStruck, GivesUp, SaysBy, AnswersBy, spends_of, Ends}
 use Rattle.pp_tree_calls.proofs.Resting.{aside_clears}
 
 -- What ends a call counts for nothing in it.

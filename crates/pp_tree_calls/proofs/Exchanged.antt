@@ -1,8 +1,8 @@
 -- The turns of a call after its seek.
-use Rattle.std.proofs.Common.{◌≡◌, ◌≢◌, ◌⊎◌, ℕ, ◌+◌, ◌-◌, ◌*◌, ◌<◌, ◌≤◌, ◌^◌, Bool, true, false, cond, List, [], ◌∷◌, ◌++◌, map}
+use Rattle.std.proofs.Common.{◌≡◌, ℕ, ◌+◌, ◌-◌, ◌<◌, ◌≤◌, ◌^◌, true, false, List, [], ◌∷◌, ◌++◌, map}
 use Rattle.std.proofs.Common.{length, refl, sym, ap, ◌∙◌, subst, ⊎_elim, inl, inr}
-use Rattle.std.proofs.Common.{Option, Some, None, append_assoc, append-nil, arith, ne_eqb, eq-eqb}
-use Rattle.std.specs.Prelude.{not, nat_eq}
+use Rattle.std.proofs.Common.{Option, Some, None, append-nil, arith, ne_eqb, eq-eqb}
+use Rattle.std.specs.Prelude.{nat_eq}
 use Rattle.std.proofs.Math.Bool.{false≢true}
 use Rattle.pp_link.specs.declared.layout.Sizes.{Sizes}
 use Rattle.pp_link.specs.declared.link.Link.{Link}
@@ -16,43 +16,36 @@ use Rattle.pp_rule.specs.Orders.{made_by, entries_of}
 use Rattle.pp_calls.proofs.Growing.{stepped_none}
 use Rattle.pp_turns.proofs.Stretches.{steps_none}
 use Rattle.pp_seek.specs.Trails.{reads}
-use Rattle.pp_model.specs.declared.Call.{Call}
-use Rattle.pp_model.specs.declared.Reply.{Reply}
 use Rattle.pp_model.specs.declared.Reply.TheVariants.{Took}
 use Rattle.pp_model.specs.declared.Turned.{Turned}
 use Rattle.pp_model.specs.declared.Turned.TheVariants.{On, Done}
 use Rattle.pp_model.specs.declared.steps.Step.{Step}
-use Rattle.pp_model.specs.Calls.{key_of}
 use Rattle.pp_model.specs.MapCalls.{WentOn, next_kind, took_effect}
-use Rattle.pp_rule.specs.declared.views.Chain.{Chain}
 use Rattle.pp_rule.specs.declared.views.PrivateRecord.{PrivateRecord}
-use Rattle.pp_rule.specs.Orders.{log_of}
 use Rattle.pp_base.specs.declared.purse.Purse.{Purse}
 use Rattle.pp_base.specs.declared.source.Side.{Side}
 use Rattle.pp_base.specs.Named.{NamedStep, name_of}
 use Rattle.pp_base.specs.Passes.{IsAtRest, owned_numbers}
 use Rattle.pp_base.specs.Sources.{side_number}
-use Rattle.pp_calls.specs.Steps.{Stepped, HasOwn, StandsThen, WriteNone, SamePurse}
+use Rattle.pp_calls.specs.Steps.{Stepped, HasOwn, StandsThen}
 use Rattle.pp_shelf.specs.Runs.{map_sizes, steps_made}
 use Rattle.pp_seek.specs.declared.seek.Spot.{Spot}
 use Rattle.pp_rule.specs.Lists.{times}
 use Rattle.pp_pool.specs.Taken.{IsPrivate}
 use Rattle.pp_seek.specs.declared.seek.Sought.{Sought}
-use Rattle.pp_seek.specs.Trails.{SameCall}
-use Rattle.pp_seek.specs.Seeking.{IsSought}
-use Rattle.pp_trees.specs.Trees.{across, inf0}
+use Rattle.pp_trees.specs.Trees.{across}
 use Rattle.pp_trees.specs.Searches.{TreePass}
-use Rattle.pp_trees.specs.Edges.{TreeView, flag_step, flagged_pass}
+use Rattle.pp_trees.specs.Edges.{TreeView, flag_step}
 use Rattle.pp_turns.specs.Tallies.{losing, effected, lost_of, memory_of, later_of}
-use Rattle.pp_turns.specs.Turns.{Ran, Since, Unplaced, Struck, SawLast}
+use Rattle.pp_turns.specs.Turns.{Since, Unplaced}
 use Rattle.pp_turns.specs.Causes.{TookBy}
 use Rattle.pp_turns.proofs.Detached.{was_detached}
-use Rattle.pp_turns.proofs.Placing.{unplaced_on, struck_on}
+use Rattle.pp_turns.proofs.Placing.{struck_on}
 use Rattle.pp_turns.proofs.Stretches.{saw_last, since_on, steps_both}
-use Rattle.pp_tree_turns.specs.Walked.{Walked, fresh_walk, tree_reader, TreeTally, moved, one_if}
+use Rattle.pp_tree_turns.specs.Walked.{Walked, fresh_walk, tree_reader, TreeTally, moved}
 use Rattle.pp_tree_turns.specs.Causes.{tree_words, tree_causes, flagged_leaf, ReadsValueOf, EndedElsewhere}
-use Rattle.pp_tree_turns.specs.Turning.{Names, Walks}
-use Rattle.pp_tree_turns.specs.Exchanging.{flags, FlagsNext, TagsNext, SplicesNext, MissesEdge, FlagsLeaf, TagsEdge, MissesPath, TakesPath}
+use Rattle.pp_tree_turns.specs.Turning.{Walks}
+use Rattle.pp_tree_turns.specs.Exchanging.{flags, FlagsNext, SplicesNext, MissesEdge, FlagsLeaf, TagsEdge, MissesPath, TakesPath}
 use Rattle.pp_tree_turns.proofs.Exchanges.{tags_after_flag, across_twice, side_two}
 use Rattle.pp_tree_turns.proofs.Counting.{TakesEffect, struck_walk, edge_misses, path_misses, path_takes, tag_walks, flag_strikes}
 use Rattle.pp_tree_turns.proofs.Counting.{flagged_losing, flagged_here, flagged_on, elsewhere_on}
@@ -60,13 +53,13 @@ use Rattle.pp_tree_calls.specs.declared.going.TreeGoing.{TreeGoing}
 use Rattle.pp_tree_calls.specs.declared.going.Next.{Next}
 use Rattle.pp_tree_calls.specs.declared.going.Next.TheVariants.{Flags, Tags, Splices, Over}
 use Rattle.pp_tree_calls.specs.Purses.{TwoRecords, HasOut}
-use Rattle.pp_tree_calls.specs.Going.{is_look, kind_of, spot_of, upper_at, going_of, Counts, IsLosing, HasTaken, Tries, Goes}
-use Rattle.pp_tree_calls.specs.Going.{TakesWith, Stands, Carries, IsUnder}
-use Rattle.pp_tree_calls.specs.Answers.{SaysStruck, MayEnd, Ends}
-use Rattle.pp_tree_calls.specs.Turned.{Part, SameGoing, HasMissed, TreeTurned}
+use Rattle.pp_tree_calls.specs.Going.{is_look, kind_of, spot_of, upper_at, going_of, IsLosing, HasTaken, Tries}
+use Rattle.pp_tree_calls.specs.Going.{TakesWith, Stands, IsUnder}
+use Rattle.pp_tree_calls.specs.Answers.{MayEnd, Ends}
+use Rattle.pp_tree_calls.specs.Turned.{Part, HasMissed, TreeTurned}
 use Rattle.pp_tree_calls.proofs.Losing.{ends_high}
-use Rattle.pp_tree_calls.proofs.Lasting.{counts_on, losing_on, taken_on, tries_on, carries_on, moved_memory}
-use Rattle.pp_tree_calls.proofs.Treading.{some_named, turned_by, turned_same}
+use Rattle.pp_tree_calls.proofs.Lasting.{counts_on, tries_on, carries_on}
+use Rattle.pp_tree_calls.proofs.Treading.{some_named}
 use Rattle.pp_tree_calls.proofs.Arriving.{over_same}
 
 -- steps among whose names there is one are some steps

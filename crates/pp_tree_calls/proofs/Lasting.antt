@@ -1,37 +1,32 @@
 -- What is known of a going call stays over a stretch of its steps.
-use Rattle.std.proofs.Common.{◌≡◌, ◌≢◌, ◌⊎◌, ℕ, ◌+◌, ◌<◌, ◌≤◌, Bool, true, false, cond, List, [], ◌∷◌, ◌++◌, map, length, refl}
-use Rattle.std.proofs.Common.{sym, ap, ◌∙◌, subst, ⊎_elim, inl, inr}
-use Rattle.std.proofs.Common.{Option, Some, None, append_assoc, arith}
+use Rattle.std.proofs.Common.{◌≡◌, ℕ, ◌+◌, Bool, true, false, List, ◌++◌, length, refl}
+use Rattle.std.proofs.Common.{sym, ap, ◌∙◌, subst}
+use Rattle.std.proofs.Common.{Option, Some, None, arith}
 use Rattle.pp_link.specs.declared.layout.Sizes.{Sizes}
 use Rattle.pp_model.specs.declared.Call.{Call}
-use Rattle.pp_model.specs.declared.Reply.{Reply}
 use Rattle.pp_model.specs.declared.Reply.TheVariants.{Took}
 use Rattle.pp_model.specs.declared.Turned.{Turned}
 use Rattle.pp_model.specs.declared.Turned.TheVariants.{On, Done}
-use Rattle.pp_model.specs.declared.Answer.{Answer}
 use Rattle.pp_model.specs.declared.steps.Step.{Step}
 use Rattle.pp_model.specs.Pass.{MapSizes}
-use Rattle.pp_model.specs.MapCalls.{LeftAlone}
-use Rattle.pp_rule.specs.declared.views.Chain.{Chain}
 use Rattle.pp_rule.specs.Lists.{IsIn}
-use Rattle.pp_rule.specs.Orders.{log_of}
 use Rattle.pp_base.specs.declared.purse.Purse.{Purse}
-use Rattle.pp_base.specs.Named.{NamedStep, name_of}
-use Rattle.pp_calls.specs.PoolViews.{pool_view, is_writing}
+use Rattle.pp_base.specs.Named.{NamedStep}
+use Rattle.pp_calls.specs.PoolViews.{is_writing}
 use Rattle.pp_calls.specs.Steps.{Stepped, HasOwn, StandsThen, WriteNone, SamePurse}
-use Rattle.pp_calls.proofs.Growing.{kinds_none, stepped_both, stepped_none}
+use Rattle.pp_calls.proofs.Growing.{kinds_none, stepped_both}
 use Rattle.pp_shelf.specs.Runs.{map_sizes, steps_made}
 use Rattle.pp_trees.specs.Searches.{TreePass}
 use Rattle.pp_trees.specs.Edges.{TreeView}
-use Rattle.pp_turns.specs.Tallies.{losing, effected, lost_of, memory_of, later_of}
-use Rattle.pp_turns.specs.Turns.{Since, Unplaced, Struck}
+use Rattle.pp_turns.specs.Tallies.{losing, effected, lost_of, memory_of}
+use Rattle.pp_turns.specs.Turns.{Since, Unplaced}
 use Rattle.pp_turns.proofs.Placing.{unplaced_on, struck_later}
 use Rattle.pp_turns.proofs.Purses.{alone_on}
-use Rattle.pp_turns.proofs.Stretches.{saw_on, since_on, steps_both, own_before, steps_named}
+use Rattle.pp_turns.proofs.Stretches.{saw_on, since_on, steps_both, own_before}
 use Rattle.pp_tree_turns.specs.Walked.{Walked, tree_reader, TreeTally, moved}
-use Rattle.pp_tree_turns.specs.Causes.{flagged_leaf, ReadsValueOf, EndedElsewhere}
+use Rattle.pp_tree_turns.specs.Causes.{flagged_leaf, ReadsValueOf}
 use Rattle.pp_tree_turns.specs.Turning.{Names, Walks}
-use Rattle.pp_tree_turns.proofs.Counting.{flagged_on, reads_on, elsewhere_on, none_walks, aside_counted}
+use Rattle.pp_tree_turns.proofs.Counting.{flagged_on, reads_on, none_walks, aside_counted}
 use Rattle.pp_tree_turns.proofs.Seeks.{trail_names}
 use Rattle.pp_tree_turns.specs.Turning.{Minds}
 use Rattle.pp_purse.specs.Steps.{is_purse_step}
@@ -42,9 +37,9 @@ use Rattle.pp_seek.specs.declared.seek.Spot.{Spot}
 use Rattle.pp_tree_calls.proofs.Resting.{aside_clears, or_clear, same_purse}
 use Rattle.pp_tree_calls.proofs.Closing.{clears_none}
 use Rattle.pp_tree_calls.specs.declared.going.TreeGoing.{TreeGoing}
-use Rattle.pp_tree_calls.specs.Going.{is_look, Counts, IsLosing, HasTaken, Tries, Carries, IsUnder}
+use Rattle.pp_tree_calls.specs.Going.{is_look, Counts, IsLosing, HasTaken, Tries, Carries}
 use Rattle.pp_tree_calls.specs.Purses.{TwoRecords, HasOut}
-use Rattle.pp_tree_calls.specs.Turned.{Part, SameGoing, HasLost, HasMissed}
+use Rattle.pp_tree_calls.specs.Turned.{Part, HasLost, HasMissed}
 
 -- none of the steps writes a link, by their names
 pub silent_none : (names : List NamedStep) (v w : TreeView) → Names names v w → ((s : NamedStep) → IsIn s names → is_writing s.kind ≡ false)

@@ -1,38 +1,35 @@
 -- The turn in which an insert publishes its two records.
-use Rattle.std.proofs.Common.{◌≡◌, ◌≢◌, ℕ, ◌+◌, ◌<◌, ◌≤◌, Bool, true, false, List, [], ◌∷◌, ◌++◌, map, length, refl, sym, ap, ◌∙◌, subst}
-use Rattle.std.proofs.Common.{Option, Some, None, arith}
-use Rattle.std.specs.Prelude.{not}
+use Rattle.std.proofs.Common.{◌≡◌, ℕ, true, false, List, [], length, refl, sym, ap, ◌∙◌, subst}
+use Rattle.std.proofs.Common.{Some, None, arith}
 use Rattle.std.proofs.Math.Bool.{false≢true}
 use Rattle.pp_link.specs.declared.layout.Sizes.{Sizes}
 use Rattle.pp_model.specs.declared.Answer.TheVariants.{Said}
 use Rattle.pp_model.specs.declared.Call.{Call}
 use Rattle.pp_model.specs.declared.Call.TheVariants.{Insert}
-use Rattle.pp_model.specs.declared.Reply.{Reply}
-use Rattle.pp_model.specs.declared.Reply.TheVariants.{Added, Took}
+use Rattle.pp_model.specs.declared.Reply.TheVariants.{Added}
 use Rattle.pp_model.specs.declared.Turned.{Turned}
-use Rattle.pp_model.specs.declared.steps.Step.{Step}
 use Rattle.pp_rule.specs.Orders.{log_of}
 use Rattle.pp_pool.specs.declared.fresh.Fresh.{Fresh}
+use Rattle.pp_pool.specs.Taken.{one_fewer_out}
 use Rattle.pp_base.specs.declared.purse.Purse.{Purse}
-use Rattle.pp_base.specs.Passes.{owned_numbers}
 use Rattle.pp_calls.specs.Steps.{Stepped}
 use Rattle.pp_shelf.specs.Runs.{map_sizes, steps_made}
 use Rattle.pp_seek.specs.declared.seek.Sought.{Sought}
 use Rattle.pp_trees.specs.Searches.{TreePass}
 use Rattle.pp_trees.specs.Edges.{TreeView, publish_step}
-use Rattle.pp_turns.specs.Tallies.{losing, effected, lost_of, memory_of}
+use Rattle.pp_turns.specs.Tallies.{losing, lost_of, memory_of}
 use Rattle.pp_turns.specs.Turns.{Since, Unplaced, Struck, WasAbsent}
 use Rattle.pp_turns.proofs.Placing.{struck_on, struck_later}
 use Rattle.pp_turns.proofs.Stretches.{saw_last, since_on}
 use Rattle.pp_tree_turns.specs.Walked.{tree_reader, TreeTally}
-use Rattle.pp_tree_turns.specs.Filling.{OwnsAlike, PublishesNext, NotPublished, Publishes as PublishesPair}
+use Rattle.pp_tree_turns.specs.Filling.{PublishesNext, NotPublished, Publishes as PublishesPair}
 use Rattle.pp_tree_turns.proofs.Counting.{TakesEffect, struck_walk, not_published_walks, publish_strikes}
 use Rattle.pp_tree_calls.specs.declared.going.TreeGoing.{TreeGoing}
 use Rattle.pp_tree_calls.specs.declared.going.Next.{Next}
 use Rattle.pp_tree_calls.specs.declared.going.Next.TheVariants.{Publishes}
 use Rattle.pp_tree_calls.specs.Purses.{TwoRecords, HasOut, out_of}
-use Rattle.pp_tree_calls.specs.Going.{is_look, kind_of, IsLosing, Tries, Goes, Stands, IsUnder}
-use Rattle.pp_tree_calls.specs.Answers.{MayEnd, Ends, spends_of}
+use Rattle.pp_tree_calls.specs.Going.{is_look, IsLosing, Tries, Goes, Stands, IsUnder}
+use Rattle.pp_tree_calls.specs.Answers.{MayEnd, spends_of}
 use Rattle.pp_tree_calls.specs.Turned.{Part, HasMissed, TreeTurned}
 use Rattle.pp_tree_calls.proofs.Exchanged.{some_in, out_free, has_missed}
 use Rattle.pp_tree_calls.proofs.Treading.{turned_by}
@@ -74,6 +71,20 @@ same_fresh a b first second = let one : a.0 ≡ b.0 = ap (λ (n : ℕ). fresh n)
 
     both : Fresh → Fresh → Fresh × Fresh
     both x y = (x, y)
+
+-- the call, by the pair that it is to add
+pub call_by_pair : (call : Call) (k v a b : ℕ) → call ≡ Insert k v → a ≡ k → b ≡ v → call ≡ Insert a b
+call_by_pair call k v a b is key value = is ∙ (ap (λ (n : ℕ). Insert n v) (sym key) ∙ ap (λ (n : ℕ). Insert a n) (sym value))
+
+pub next_by_pair : (q : TreePass) (s : Sought) (k v a b : ℕ) → a ≡ k → b ≡ v → PublishesNext q s k v → PublishesNext q s a b
+next_by_pair q s k v a b key value n = subst (λ (x : ℕ). PublishesNext q s a x) (sym value)
+    (subst (λ (x : ℕ). PublishesNext q s x v) (sym key) n)
+
+-- both records are spent
+pub spent_out : (q : TreePass) (p p' : Purse) (records : TwoRecords) → records ≡ None → p' ≡ one_fewer_out (one_fewer_out p) → p.taken ≡ 2
+    → HasOut q p' records
+spent_out q p p' records bare spent two = subst (λ (r : TwoRecords). HasOut q p' r) (sym bare)
+    (ap (λ (x : Purse). x.taken) spent ∙ omega (arith, two))
 
 -- the same with the records that the call has
 abbrev pub with_records : TreeGoing → Fresh × Fresh → TreeGoing
@@ -167,7 +178,10 @@ module _ (z : Sizes) (share : ℕ) (g : TreeGoing) (s : Sought) (f : Fresh × Fr
   added_turned k value call bare e q same sizes g' w p' result stepped none part =
       turned_by z share (with_records g f) (record g { struck = true }) g' v u w p p' result
       (λ from free. MayEnd z share g.races g.call g.records (Said Added) from u free q) refl refl refl refl (λ on. refl)
-      (λ off on. (Added, struck_later g.call Added v u w e.names.stepped.number stepped.order
-      (subst (λ (c : Call). Struck c Added v u) (sym call) e.struck) none)) e.names.stepped
+      (λ off on. (
+        Added,
+        struck_later g.call Added v u w e.names.stepped.number stepped.order
+            (subst (λ (c : Call). Struck c Added v u) (sym call) e.struck) none,
+      )) e.names.stepped
       (some_in e.before _ _ (steps_made v u) e.names.named) e.names.stands
       (λ from free under. publish_may k value call bare e q same sizes from free under) part

@@ -1,50 +1,35 @@
 -- A turn of a call's seek.
-use Rattle.std.proofs.Common.{◌≡◌, ◌≢◌, ◌⊎◌, ℕ, ◌+◌, ◌-◌, ◌*◌, ◌<◌, ◌≤◌, ◌^◌, Bool, true, false, cond, List, [], ◌∷◌, ◌++◌, map}
-use Rattle.std.proofs.Common.{length, refl, sym, ap, ◌∙◌, subst, ⊎_elim, inl, inr}
-use Rattle.std.proofs.Common.{Option, Some, None, append_assoc, arith}
-use Rattle.std.specs.Prelude.{not, nat_lt}
+use Rattle.std.proofs.Common.{◌≡◌, ℕ, ◌+◌, ◌-◌, ◌<◌, ◌≤◌, ◌^◌, Bool, true, false, cond, List}
+use Rattle.std.proofs.Common.{length, refl, sym, ◌∙◌, subst, ⊎_elim}
+use Rattle.std.proofs.Common.{Option, Some, None, arith}
+use Rattle.std.specs.Prelude.{nat_lt}
 use Rattle.std.proofs.Math.Bool.{false≢true}
 use Rattle.pp_link.specs.declared.layout.Sizes.{Sizes}
-use Rattle.pp_link.specs.Links.{word_of}
 use Rattle.pp_model.specs.declared.Call.{Call}
-use Rattle.pp_model.specs.declared.Reply.{Reply}
-use Rattle.pp_model.specs.declared.Turned.{Turned}
-use Rattle.pp_model.specs.declared.Turned.TheVariants.{On, Done}
-use Rattle.pp_model.specs.declared.steps.Step.{Step}
-use Rattle.pp_model.specs.Calls.{key_of, changes, reply_at}
+use Rattle.pp_model.specs.declared.Turned.TheVariants.{On}
+use Rattle.pp_model.specs.Calls.{key_of}
 use Rattle.pp_model.specs.MapCalls.{WentOn, keys_narrowed}
-use Rattle.pp_rule.specs.declared.views.Halves.{Halves}
-use Rattle.pp_rule.specs.Orders.{log_of, read_step}
-use Rattle.pp_rule.specs.Views.{slot}
 use Rattle.pp_base.specs.declared.purse.Purse.{Purse}
-use Rattle.pp_base.specs.Named.{NamedStep, name_of}
-use Rattle.pp_base.specs.Passes.{IsAtRest}
-use Rattle.pp_calls.specs.Steps.{Stepped, HasOwn, StandsThen, WriteNone, SamePurse}
 use Rattle.pp_shelf.specs.Runs.{map_sizes, steps_made}
 use Rattle.pp_seek.specs.declared.seek.Seek.{Seek}
 use Rattle.pp_seek.specs.declared.seek.Spot.{Spot}
-use Rattle.pp_seek.specs.declared.seek.Sought.{Sought}
-use Rattle.pp_seek.specs.Trails.{Trail, SameCall, reads}
-use Rattle.pp_seek.specs.Seeking.{Seeks as IsSeek, SeeksAt, AtRecord, IsSought, Enters, ComesDown, Loses, FoundInvalid}
-use Rattle.pp_seek.specs.Seeking.{FoundOther, FoundOutside, WasLost, EndsAtLeaf, WentOn as SeekWentOn}
-use Rattle.pp_trees.specs.Trees.{inf0, inf2, IsRight}
-use Rattle.pp_trees.specs.Searches.{TreePass}
-use Rattle.pp_trees.specs.Edges.{TreeView, end_step}
-use Rattle.pp_trees.specs.Seeks.{found_at}
-use Rattle.pp_turns.specs.Tallies.{losing, effected, lost_of, memory_of, later_of}
-use Rattle.pp_turns.specs.Turns.{Waits, Unplaced, SawLast, Replied}
-use Rattle.pp_turns.proofs.Placing.{unplaced_on, replied_on}
+use Rattle.pp_seek.specs.Trails.{Trail, SameCall}
+use Rattle.pp_seek.specs.Seeking.{Seeks as IsSeek, SeeksAt, Enters, ComesDown, Loses, FoundInvalid}
+use Rattle.pp_seek.specs.Seeking.{FoundOther, FoundOutside, WasLost, WentOn as SeekWentOn}
+use Rattle.pp_trees.specs.Trees.{inf0}
+use Rattle.pp_trees.specs.Edges.{TreeView}
+use Rattle.pp_turns.specs.Tallies.{memory_of}
 use Rattle.pp_turns.proofs.Stretches.{saw_last}
-use Rattle.pp_tree_turns.specs.Walked.{Walked, TreeTally, moved}
-use Rattle.pp_tree_turns.specs.Turning.{Minds, Names, Walks}
+use Rattle.pp_tree_turns.specs.Walked.{Walked}
+use Rattle.pp_tree_turns.specs.Turning.{Minds}
 use Rattle.pp_tree_turns.proofs.Seeks.{trail_names, enters_walks, further_walks, lost_walks}
 use Rattle.pp_tree_calls.specs.declared.going.TreeGoing.{TreeGoing}
 use Rattle.pp_tree_calls.specs.declared.going.Next.{Next}
 use Rattle.pp_tree_calls.specs.declared.going.Next.TheVariants.{Seeks}
-use Rattle.pp_tree_calls.specs.Going.{is_look, upper_at, lower_at, going_of, Begun, Tries, Goes, Stands, Carries, IsUnder}
+use Rattle.pp_tree_calls.specs.Going.{upper_at, lower_at, going_of, Begun, Tries, Goes, Stands, IsUnder}
 use Rattle.pp_tree_calls.specs.Turned.{HasLost, TreeTurned}
 use Rattle.pp_tree_calls.proofs.Lasting.{moved_memory, tries_on}
-use Rattle.pp_tree_calls.proofs.Treading.{some_named, carries_trail, trail_unplaced, rest_on, goes_same, first_tries, next_tries}
+use Rattle.pp_tree_calls.proofs.Treading.{some_named, carries_trail, trail_unplaced, rest_on, first_tries, next_tries}
 use Rattle.pp_tree_calls.proofs.Treading.{both_calls}
 
 -- a turn that was lost made a step

@@ -1,22 +1,20 @@
 -- The turn in which an insert gets its two records and publishes them, or doesn't get them and is answered.
-use Rattle.std.proofs.Common.{◌≡◌, ◌≢◌, ◌⊎◌, ℕ, zero, suc, ◌+◌, ◌*◌, ◌<◌, ◌≤◌, min, Bool, true, false, List, [], ◌∷◌, ◌++◌}
+use Rattle.std.proofs.Common.{◌≡◌, ℕ, zero, suc, ◌+◌, ◌*◌, ◌<◌, ◌≤◌, min, Bool, true, false, List, [], ◌∷◌, ◌++◌}
 use Rattle.std.proofs.Common.{length, take, refl, sym, ap, ◌∙◌}
-use Rattle.std.proofs.Common.{subst, Option, Some, None, arith, length-append}
+use Rattle.std.proofs.Common.{subst, None, arith, length-append}
 use Rattle.std.specs.Prelude.{◌||◌, nat_eq}
 use Rattle.std.proofs.Math.Bool.{false≢true}
 use Rattle.pp_link.specs.declared.layout.Sizes.{Sizes}
 use Rattle.pp_pool.specs.declared.fresh.Fresh.{Fresh}
-use Rattle.pp_model.specs.declared.Answer.{Answer}
 use Rattle.pp_model.specs.declared.Answer.TheVariants.{Full}
 use Rattle.pp_model.specs.declared.Call.{Call}
-use Rattle.pp_model.specs.declared.Call.TheVariants.{Insert}
 use Rattle.pp_model.specs.declared.Turned.{Turned}
 use Rattle.pp_model.specs.declared.Turned.TheVariants.{On, Done}
 use Rattle.pp_model.specs.declared.steps.Step.{Step}
 use Rattle.pp_model.specs.Lists.{IsPrefix}
-use Rattle.pp_model.specs.MapCalls.{AnswersCall, IfOn, IfDone, LeavesPurse, WentOn}
+use Rattle.pp_model.specs.MapCalls.{AnswersCall, LeavesPurse, WentOn}
 use Rattle.pp_model.specs.Pass.{GoingView}
-use Rattle.pp_rule.specs.Causes.{owned_after, memory_after}
+use Rattle.pp_rule.specs.Causes.{owned_after}
 use Rattle.pp_rule.specs.declared.views.WalkSlot.{WalkSlot}
 use Rattle.pp_rule.specs.Lists.{BeginsWith}
 use Rattle.pp_rule.specs.Orders.{log_of, clear_step, write_step}
@@ -25,12 +23,11 @@ use Rattle.pp_base.specs.declared.purse.Purse.{Purse}
 use Rattle.pp_base.specs.Named.{NamedStep}
 use Rattle.pp_base.specs.Passes.{IsAtRest}
 use Rattle.pp_calls.specs.PoolViews.{pool_view}
-use Rattle.pp_calls.specs.Steps.{Stepped, HasOwn, StandsThen}
-use Rattle.pp_calls.proofs.Growing.{stepped_both, stepped_made, went_on}
+use Rattle.pp_calls.specs.Steps.{Stepped, StandsThen}
+use Rattle.pp_calls.proofs.Growing.{stepped_both, went_on}
 use Rattle.pp_shelf.specs.Runs.{map_sizes, steps_made}
-use Rattle.pp_purse.specs.Purses.{TidiesPurse, RanOut}
+use Rattle.pp_purse.specs.Purses.{TidiesPurse}
 use Rattle.pp_purse.specs.Steps.{PurseSteps, is_purse_step}
-use Rattle.pp_purse.proofs.Stretches.{purse_both}
 use Rattle.pp_base.proofs.Named.{made_append}
 use Rattle.pp_seek.specs.declared.seek.Sought.{Sought}
 use Rattle.pp_seek.specs.Seeking.{IsSought}
@@ -38,26 +35,25 @@ use Rattle.pp_trees.specs.declared.own.TreeOwn.{TreeOwn}
 use Rattle.pp_trees.specs.Searches.{TreePass}
 use Rattle.pp_trees.specs.Edges.{TreeView}
 use Rattle.pp_turns.specs.Tallies.{losing, lost_of, memory_of}
-use Rattle.pp_turns.specs.Turns.{Since, SawLast, Unplaced, Struck, Kept, WasAbsent}
+use Rattle.pp_turns.specs.Turns.{Since, WasAbsent}
 use Rattle.pp_turns.specs.Causes.{Aside, is_aside}
 use Rattle.pp_turns.proofs.Answering.{says_full}
 use Rattle.pp_turns.proofs.Aside.{aside_at_purse, aside_both, counts_losing}
 use Rattle.pp_turns.proofs.Placing.{absent_on, struck_on, unplaced_on}
 use Rattle.pp_turns.proofs.Purses.{found_none, full_purse, tidied}
 use Rattle.pp_turns.proofs.Stretches.{own_before, saw_last, since_on, stretch_both}
-use Rattle.pp_tree_turns.specs.Walked.{tree_reader, TreeTally, moved}
+use Rattle.pp_tree_turns.specs.Walked.{tree_reader, TreeTally}
 use Rattle.pp_tree_turns.specs.Causes.{tree_words, tree_causes, tree_meaning, HoldsPairs}
-use Rattle.pp_tree_turns.specs.Exchanging.{AreAside}
 use Rattle.pp_tree_turns.specs.Filling.{PublishesNext}
-use Rattle.pp_tree_turns.specs.Turning.{Names, Walks}
+use Rattle.pp_tree_turns.specs.Turning.{Walks}
 use Rattle.pp_tree_turns.proofs.Counting.{none_walks, aside_counted}
 use Rattle.pp_tree_turns.proofs.Exchanges.{made_names}
 use Rattle.pp_tree_turns.proofs.Reading.{tree_over}
 use Rattle.pp_tree_calls.specs.declared.going.TreeGoing.{TreeGoing}
 use Rattle.pp_tree_calls.specs.declared.going.Next.{Next}
 use Rattle.pp_tree_calls.specs.declared.going.Next.TheVariants.{Publishes, Over}
-use Rattle.pp_tree_calls.specs.Purses.{TwoRecords, HasOut, TakesTwo, TakesNone, PutsAway, out_of}
-use Rattle.pp_tree_calls.specs.Going.{is_look, kind_of, spot_of, upper_at, going_of, IsLosing, Tries, Goes, Stands, Carries, IsUnder}
+use Rattle.pp_tree_calls.specs.Purses.{TakesTwo, TakesNone, PutsAway}
+use Rattle.pp_tree_calls.specs.Going.{is_look, going_of, Stands, IsUnder}
 use Rattle.pp_tree_calls.specs.Turned.{TreeTurned}
 use Rattle.pp_tree_calls.proofs.Lasting.{tries_on}
 use Rattle.pp_tree_calls.proofs.Losing.{ends_high}
@@ -234,8 +230,8 @@ few_left zero (x ∷ []) middle last few a b kept = (last, refl)
 few_left (suc share) (x ∷ []) middle last few a b kept = let one : min 1 (suc share) ≡ 1 = omega arith in
     subst (λ (n : ℕ). IsPrefix (take n (x ∷ [])) last) (sym one) (by last b kept)
   where
-    long : length middle ≡ 1 + length a.0
-    long = ap (λ (l : List ℕ). length l) a.1
+    long : 1 ≤ length middle
+    long = let e = ap (λ (l : List ℕ). length l) a.1 in let b = length-append (x ∷ []) a.0 in omega arith
 
     by : (last : List ℕ) → BeginsWith middle last → min (suc share) (length middle) ≤ length last → IsPrefix (x ∷ []) last
     by [] b kept = absurd (omega (arith, long, kept))
@@ -245,6 +241,12 @@ few_left share (x ∷ (y ∷ free)) middle last few a b kept = absurd (let e = a
 scan_long : (scan : List Step) → owned_after 2 scan < 2 → 0 < length scan
 scan_long [] few = absurd (omega arith)
 scan_long (s ∷ scan) few = omega arith
+
+-- a pass that has no record out owns as many as are free
+pub full_owned : (z : Sizes) (share : ℕ) (u w : TreeView) (q p' : Purse) → PutsAway z share u w q p' → length q.free.items < 2
+    → length w.known.owned ≤ length p'.free.items + p'.taken → p'.taken ≡ 0 → length w.known.owned < 2
+full_owned z share u w q p' l few counted none = let e = ap (λ (y : List ℕ). length y) l.begins.1 in
+    let b = length-append p'.free.items l.begins.0 in omega arith
 
 -- It found too few, and was answered.
 module _ (z : Sizes) (share : ℕ) (g : TreeGoing) (s : Sought) (v u w : TreeView) (p q p' : Purse) (at : g.next ≡ Publishes s)

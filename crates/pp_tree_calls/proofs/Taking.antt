@@ -1,5 +1,5 @@
 -- The two records of an insert that were taken.
-use Rattle.std.proofs.Common.{◌≡◌, ◌≢◌, ℕ, ◌+◌, ◌<◌, ◌≤◌, min, ◌^◌, true, List, [], ◌∷◌, ◌++◌, length, Option, Some, None, refl}
+use Rattle.std.proofs.Common.{◌≡◌, ◌≢◌, ℕ, ◌≤◌, List, [], ◌∷◌, ◌++◌, length, Some, None, refl}
 use Rattle.std.proofs.Common.{sym, ap, ◌∙◌}
 use Rattle.std.proofs.Common.{subst, arith, length-append}
 use Rattle.pp_link.specs.declared.layout.Sizes.{Sizes}
@@ -10,13 +10,12 @@ use Rattle.pp_rule.specs.Lists.{OnceBy, times}
 use Rattle.pp_rule.specs.Rule.{number_of}
 use Rattle.pp_rule.proofs.Times.{times_once}
 use Rattle.pp_base.specs.declared.purse.Purse.{Purse}
-use Rattle.pp_base.specs.Passes.{owned_numbers}
 use Rattle.pp_trees.specs.Searches.{TreePass}
 use Rattle.pp_trees.specs.Edges.{TreeView}
 use Rattle.pp_purse.specs.Purses.{FindsFree, RanOut}
 use Rattle.pp_purse.specs.Steps.{PurseSteps}
 use Rattle.pp_purse.proofs.Stretches.{none_made}
-use Rattle.pp_tree_calls.specs.Purses.{TwoRecords, HasOut, TakesTwo, TakesNone, out_of}
+use Rattle.pp_tree_calls.specs.Purses.{TwoRecords, HasOut, TakesTwo, TakesNone}
 
 -- they were out already
 pub took_already : (z : Sizes) (f : Fresh × Fresh) (v : TreeView) (p : Purse) → HasOut v.known p (Some f) → TakesTwo z (Some f) f v v p p

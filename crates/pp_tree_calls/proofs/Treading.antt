@@ -1,59 +1,46 @@
 -- What the turns of a seek make of a going call.
-use Rattle.std.proofs.Common.{◌≡◌, ◌≢◌, ◌⊎◌, ℕ, zero, suc, ◌+◌, ◌-◌, ◌*◌, ◌<◌, ◌≤◌, ◌^◌, Bool, true, false, cond, List, [], ◌∷◌}
-use Rattle.std.proofs.Common.{◌++◌, map, length, refl, sym, ap, ◌∙◌, subst, ⊎_elim, inl, inr}
-use Rattle.std.proofs.Common.{Option, Some, None, append_assoc, length-append, arith}
+use Rattle.std.proofs.Common.{◌≡◌, ℕ, zero, suc, ◌+◌, ◌<◌, ◌≤◌, true, false, List, [], ◌∷◌}
+use Rattle.std.proofs.Common.{map, length, refl, sym, ap, ◌∙◌, subst, ⊎_elim}
+use Rattle.std.proofs.Common.{Option, Some, None, length-append, arith}
 use Rattle.std.specs.Prelude.{not}
 use Rattle.std.proofs.Math.Bool.{false≢true}
 use Rattle.pp_link.specs.declared.layout.Sizes.{Sizes}
-use Rattle.pp_link.specs.Links.{word_of}
-use Rattle.pp_model.specs.declared.Answer.{Answer}
 use Rattle.pp_model.specs.declared.Call.{Call}
 use Rattle.pp_model.specs.declared.Reply.{Reply}
 use Rattle.pp_model.specs.declared.Turned.{Turned}
 use Rattle.pp_model.specs.declared.Turned.TheVariants.{On, Done}
 use Rattle.pp_model.specs.declared.steps.Step.{Step}
-use Rattle.pp_model.specs.Calls.{key_of, changes, reply_at}
-use Rattle.pp_model.specs.Pass.{MapSizes, seen_first}
-use Rattle.pp_model.specs.MapCalls.{AnswersCall, WentOn, turn_lost, keys_narrowed, next_kind, took_effect}
-use Rattle.pp_rule.specs.declared.views.Halves.{Halves}
-use Rattle.pp_rule.specs.Lists.{IsIn}
-use Rattle.pp_rule.specs.Orders.{log_of}
-use Rattle.pp_rule.specs.Views.{slot}
+use Rattle.pp_model.specs.Calls.{key_of}
+use Rattle.pp_model.specs.MapCalls.{AnswersCall, turn_lost, next_kind}
 use Rattle.pp_base.specs.declared.purse.Purse.{Purse}
-use Rattle.pp_base.specs.Named.{NamedStep, name_of, loads, announces}
+use Rattle.pp_base.specs.Named.{NamedStep, name_of}
 use Rattle.pp_base.specs.Passes.{IsAtRest}
 use Rattle.pp_calls.specs.PoolViews.{is_writing, pool_view}
 use Rattle.pp_tree_turns.specs.Causes.{tree_meaning}
-use Rattle.pp_calls.specs.Steps.{Stepped, HasOwn, StandsThen, WriteNone, SamePurse, Went}
+use Rattle.pp_calls.specs.Steps.{Stepped, HasOwn, StandsThen, WriteNone}
 use Rattle.pp_calls.proofs.Growing.{stepped_both}
 use Rattle.pp_shelf.specs.Runs.{map_sizes, steps_made}
-use Rattle.pp_seek.specs.declared.seek.Seek.{Seek}
 use Rattle.pp_seek.specs.declared.seek.Spot.{Spot}
-use Rattle.pp_seek.specs.declared.seek.Sought.{Sought}
-use Rattle.pp_seek.specs.Trails.{Trail, SameRest, SameCall, IsSilent, reads}
-use Rattle.pp_seek.specs.Seeking.{Seeks as IsSeek, SeeksAt, Enters, ComesDown, WasLost, EndsAtLeaf, width, WentOn as SeekWentOn}
-use Rattle.pp_trees.specs.Trees.{inf0, inf2, IsRight}
-use Rattle.pp_trees.specs.Searches.{TreePass}
+use Rattle.pp_seek.specs.Trails.{Trail, SameCall, IsSilent}
+use Rattle.pp_seek.specs.Seeking.{Enters}
+use Rattle.pp_trees.specs.Trees.{inf0}
 use Rattle.pp_trees.specs.Edges.{TreeView, end_step}
-use Rattle.pp_trees.specs.Seeks.{found_at}
-use Rattle.pp_turns.specs.Tallies.{losing, effected, lost_of, memory_of, later_of}
-use Rattle.pp_turns.specs.Turns.{Ran, Since, Waits, Unplaced, Struck, SawLast, Replied}
-use Rattle.pp_turns.proofs.Placing.{unplaced_on, unplaced_made, replied_on}
-use Rattle.pp_turns.proofs.Stretches.{since_first, saw_last, steps_both, stretch_both, stepped_steps, own_before}
-use Rattle.pp_tree_turns.specs.Walked.{Walked, fresh_walk, tree_reader, TreeTally, moved}
-use Rattle.pp_tree_turns.specs.Turning.{Minds, Names, Walks}
-use Rattle.pp_tree_turns.proofs.Seeks.{trail_names, enters_walks, further_walks, lost_walks}
-use Rattle.pp_tree_turns.proofs.Ends.{entered_start, four_steps, ending, ends_names, ends_walks, ends_replied, ends_effect}
-use Rattle.pp_tree_turns.proofs.Ends.{ends_again, ends_same}
+use Rattle.pp_turns.specs.Tallies.{losing, memory_of}
+use Rattle.pp_turns.specs.Turns.{Waits, Unplaced, Struck}
+use Rattle.pp_turns.proofs.Placing.{unplaced_on, unplaced_made}
+use Rattle.pp_turns.proofs.Stretches.{since_first, stretch_both, own_before}
+use Rattle.pp_tree_turns.specs.Walked.{fresh_walk, tree_reader}
+use Rattle.pp_tree_turns.specs.Turning.{Minds, Walks}
+use Rattle.pp_tree_turns.proofs.Seeks.{trail_names, enters_walks}
+use Rattle.pp_tree_turns.proofs.Ends.{entered_start}
 use Rattle.pp_tree_calls.specs.declared.going.TreeGoing.{TreeGoing}
 use Rattle.pp_tree_calls.specs.declared.going.Next.{Next}
-use Rattle.pp_tree_calls.specs.declared.going.Next.TheVariants.{Seeks, Over}
-use Rattle.pp_tree_calls.specs.Purses.{TwoRecords, HasOut}
-use Rattle.pp_tree_calls.specs.Going.{is_look, kind_of, going_of, upper_at, Begun, Counts, IsLosing, HasTaken, Tries, Goes}
-use Rattle.pp_tree_calls.specs.Going.{Stands, Carries, IsUnder}
-use Rattle.pp_tree_calls.specs.Turned.{Part, Advances, EndedAt, found_by, HasLost, HasMissed, HasArrived, HasEnded, TreeTurned, SameGoing}
+use Rattle.pp_tree_calls.specs.Purses.{TwoRecords}
+use Rattle.pp_tree_calls.specs.Going.{kind_of, Tries, Goes}
+use Rattle.pp_tree_calls.specs.Going.{Carries, IsUnder}
+use Rattle.pp_tree_calls.specs.Turned.{Part, TreeTurned}
 use Rattle.pp_tree_calls.proofs.Resting.{rest_kept, same_purse}
-use Rattle.pp_tree_calls.proofs.Lasting.{silent_none, counts_on, losing_on, taken_on, tries_on, carries_on, out_same, moved_memory}
+use Rattle.pp_tree_calls.proofs.Lasting.{silent_none, counts_on, tries_on, carries_on, out_same}
 
 -- steps with some names are some steps
 pub some_named : (n : NamedStep) (names : List NamedStep) (steps : List Step) → map name_of steps ≡ n ∷ names → 0 < length steps

@@ -47,7 +47,9 @@ impl TreeGoing {
             Next::Publishes(sought) => publish_on(self, pool, pass, sought),
             Next::Flags(sought) => flag_on(self, pool, pass, sought),
             Next::Tags(sought, side) => tag_on(self, pool, pass, sought, side),
-            Next::Splices(sought, side, sibling) => splice_on(self, pool, pass, sought, side, sibling),
+            Next::Splices(sought, side, sibling) => splice_on(
+                self, pool, pass, sought, side, sibling,
+            ),
             Next::Over => unreachable!(),
         }
     }

@@ -184,7 +184,11 @@ fn put_in(
             going.struck = true;
             end(going, pool, pass, Answer::Said(Reply::Added))
         }
-        Published::Changed { leaf, inner, found: _ } => {
+        Published::Changed {
+            leaf,
+            inner,
+            found: _,
+        } => {
             going.records = Some((leaf, inner));
             lose_again(going, pool, pass)
         }

@@ -1,5 +1,6 @@
 -- The exchange of an insert, after its records were written.
-use Rattle.std.proofs.Common.{◌≡◌, ◌≢◌, ◌⊎◌, ℕ, zero, suc, ◌+◌, ◌*◌, ◌%◌, ◌<◌, ◌≤◌, Bool, true, false, List, [], ◌∷◌, ◌++◌, length, refl, sym, ap, ◌∙◌, subst}
+use Rattle.std.proofs.Common.{◌≡◌, ◌≢◌, ◌⊎◌, ℕ, zero, suc, ◌+◌, ◌*◌, ◌%◌, ◌<◌, ◌≤◌, Bool, true, false, List, [], ◌∷◌, ◌++◌}
+use Rattle.std.proofs.Common.{length, refl, sym, ap, ◌∙◌, subst}
 use Rattle.std.proofs.Common.{⊎_elim, inl, inr, arith, append_assoc, append-nil}
 use mathlib.Core.Option.{some, some-injective, some-ne-none}
 use lib.ListN.{get_elem?}
@@ -35,7 +36,8 @@ use Rattle.pp_trees.specs.Edges.{TreeView, publish_step}
 use Rattle.pp_turns.specs.Turns.{Unplaced, Struck}
 use Rattle.pp_turns.proofs.Placing.{unplaced_on, struck_at, struck_on}
 use Rattle.pp_tree_turns.specs.Turning.{Names}
-use Rattle.pp_tree_turns.specs.Filling.{Has, OwnsAlike, Wrote, Filled, FilledOver, PublishesNext, AreBefore, Publishes, NotPublished, PublishedTo}
+use Rattle.pp_tree_turns.specs.Filling.{Has, OwnsAlike, Wrote, Filled, FilledOver, PublishesNext, AreBefore, Publishes}
+use Rattle.pp_tree_turns.specs.Filling.{NotPublished, PublishedTo}
 use Rattle.pp_tree_turns.proofs.Seeks.{step_names, names_both, names_as}
 use Rattle.pp_tree_turns.proofs.Exchanges.{quiet_names, quiet_unplaced, parent_place, walk_far}
 use Rattle.pp_tree_turns.proofs.Written.{wrote_both}

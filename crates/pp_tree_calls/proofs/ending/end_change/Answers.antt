@@ -1,4 +1,4 @@
-use Rattle.std.proofs.Common.{ℕ, ◌+◌, length, refl, sym, ap, ◌∙◌, subst}
+use Rattle.std.proofs.Common.{ℕ, ◌+◌, length, sym, ap, ◌∙◌, subst}
 use Rattle.pp_base.specs.Passes.{known, view, IsAtRest, IsSame}
 use Rattle.pp_base.specs.declared.purse.Purse.{Purse}
 use Rattle.pp_calls.proofs.Purses.{same_share}

@@ -1,14 +1,12 @@
-use Rattle.std.proofs.Common.{◌≡◌, ℕ, Some, None, refl, sym, ap, ◌∙◌, inl, inr, subst, Option}
-use Rattle.std.specs.Prelude.{nat_eq}
+use Rattle.std.proofs.Common.{Some, refl, sym, ap, ◌∙◌}
 use Rattle.pp_link.specs.Links.{bit}
 use Rattle.pp_model.specs.declared.Answer.TheVariants.{Said}
-use Rattle.pp_model.specs.declared.Reply.TheVariants.{Value, Absent, Added, Held, Took, Other}
-use Rattle.pp_model.specs.Calls.{key_of, changes, reply_at}
+use Rattle.pp_model.specs.declared.Reply.TheVariants.{Absent, Other}
+use Rattle.pp_model.specs.Calls.{reply_at}
 use Rattle.pp_rule.specs.Views.{slot, value_of}
 use Rattle.pp_base.specs.Passes.{known, view}
 use Rattle.pp_calls.proofs.Purses.{same_share}
-use Rattle.pp_tree_calls.specs.Going.{is_look}
-use Rattle.pp_tree_calls.specs.Turned.{found_by, HasEnded, HasArrived}
+use Rattle.pp_tree_calls.specs.Turned.{found_by, HasArrived}
 use Rattle.pp_tree_calls.proofs.Lasting.{part_after}
 use Rattle.pp_tree_calls.proofs.Arriving.{arrived_says, arrived_idle, part_as, found_other, found_flag, found_value, flag_of}
 use Rattle.pp_tree_calls.proofs.Arriving.{cut_absent, cut_other, cut_takes, ends_as}

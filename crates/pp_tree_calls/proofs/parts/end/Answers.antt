@@ -1,4 +1,4 @@
-use Rattle.std.proofs.Common.{Bool, Option, refl, sym, subst}
+use Rattle.std.proofs.Common.{Bool, subst}
 use Rattle.pp_base.specs.Passes.{known, view}
 use Rattle.pp_tree_calls.specs.Purses.{TwoRecords}
 use Rattle.pp_tree_calls.specs.Answers.{Leaves}

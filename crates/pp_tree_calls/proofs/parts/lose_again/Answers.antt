@@ -1,10 +1,10 @@
-use Rattle.std.proofs.Common.{◌≡◌, ◌≤◌, ◌^◌, false, arith, ℕ, refl, sym, ap, ◌∙◌, subst}
+use Rattle.std.proofs.Common.{◌≡◌, ◌≤◌, ◌^◌, false, arith, refl, sym, ap, ◌∙◌, subst}
 use Rattle.pp_base.specs.Passes.{known, view}
 use Rattle.pp_calls.proofs.Purses.{same_share}
 use Rattle.pp_seek.specs.declared.seek.Seek.{Seek}
 use Rattle.pp_seek.specs.Seeking.{Seeks as IsSeek}
 use Rattle.pp_tree_calls.specs.Going.{upper_at}
-use Rattle.pp_tree_calls.specs.Turned.{Part, HasLost, HasMissed}
+use Rattle.pp_tree_calls.specs.Turned.{HasLost, HasMissed}
 use Rattle.pp_tree_calls.proofs.Lasting.{part_after, missed_lost, out_same, lost_shared}
 use Rattle.pp_tree_calls.proofs.Resting.{rest_kept, aside_clears}
 use Rattle.pp_tree_calls.proofs.parts.lose_again.Goals as goal

@@ -1,10 +1,10 @@
-use Rattle.std.proofs.Common.{◌≡◌, ℕ, Some, refl, sym, ap, ◌∙◌, subst}
+use Rattle.std.proofs.Common.{refl, ap, ◌∙◌, subst}
 use Rattle.pp_model.specs.Calls.{key_of}
-use Rattle.pp_base.specs.Passes.{known, view}
+use Rattle.pp_base.specs.Passes.{view}
 use Rattle.pp_calls.proofs.Purses.{same_share}
 use Rattle.pp_tree_calls.specs.declared.going.Next.{Next}
 use Rattle.pp_tree_calls.specs.Going.{Stands, kind_of}
-use Rattle.pp_tree_calls.specs.Turned.{Part, HasLost, HasArrived}
+use Rattle.pp_tree_calls.specs.Turned.{HasLost, HasArrived}
 use Rattle.pp_tree_calls.proofs.Lasting.{lost_shared}
 use Rattle.pp_tree_calls.proofs.Arriving.{part_as}
 use Rattle.pp_tree_turns.proofs.Seeks.{trail_names}

@@ -1,23 +1,15 @@
-use Rattle.std.proofs.Common.{◌≡◌, ℕ, true, false, refl, sym, ap, ◌∙◌, subst}
-use Rattle.pp_link.specs.Links.{word_of}
+use Rattle.std.proofs.Common.{refl}
 use Rattle.pp_model.specs.declared.Answer.TheVariants.{Said}
-use Rattle.pp_model.specs.declared.Call.{Call}
 use Rattle.pp_model.specs.declared.Reply.TheVariants.{Took}
-use Rattle.pp_model.specs.MapCalls.{WentOn}
-use Rattle.pp_base.specs.Passes.{known, view}
+use Rattle.pp_base.specs.Passes.{view}
 use Rattle.pp_calls.proofs.Purses.{same_share}
 use Rattle.pp_shelf.specs.Runs.{steps_made}
-use Rattle.pp_tree_turns.specs.Exchanging.{FlagsLeaf}
-use Rattle.pp_tree_calls.specs.declared.going.Next.{Next}
-use Rattle.pp_tree_calls.specs.declared.going.Next.TheVariants.{Splices}
 use Rattle.pp_tree_calls.specs.Answers.{MayEnd}
-use Rattle.pp_tree_calls.specs.Going.{Stands, kind_of, going_of}
-use Rattle.pp_tree_calls.specs.Turned.{Part, HasMissed, TreeTurned}
+use Rattle.pp_tree_calls.specs.Turned.{HasMissed}
 use Rattle.pp_tree_calls.proofs.Lasting.{missed_shared}
 use Rattle.pp_tree_calls.proofs.Arriving.{ends_as}
-use Rattle.pp_tree_calls.proofs.Resting.{rest_kept}
-use Rattle.pp_tree_calls.proofs.Treading.{some_named, turned_same}
-use Rattle.pp_tree_calls.proofs.Exchanged.{some_in, flag_missed, flag_turned, tag_missed, tag_goes, comes_to, splice_missed}
+use Rattle.pp_tree_calls.proofs.Treading.{turned_same}
+use Rattle.pp_tree_calls.proofs.Exchanged.{some_in, splice_missed}
 use Rattle.pp_tree_calls.proofs.Exchanged.{splice_lost, splice_may, end_part}
 use Rattle.pp_tree_calls.proofs.turns.splice_on.Goals as goal
 
