@@ -1,10 +1,9 @@
 -- What a pass of a pool notes and learns is what a pass of a map does.
-use Rattle.std.proofs.Common.{◌≡◌, ℕ, ◌+◌, ◌-◌, ◌^◌, ◌≤◌, List, [], ◌++◌, length, refl, sym, ap, ◌∙◌, subst, length-append, arith}
+use Rattle.std.proofs.Common.{◌≡◌, ℕ, ◌-◌, ◌^◌, ◌≤◌, List, [], ◌++◌, length, refl, sym, ap, ◌∙◌, subst, length-append, arith}
 use Rattle.std.proofs.lemmas.List.{nil_from_length}
 use Rattle.atomic_table.specs.declared.shared.Seat.{Seat}
 use Rattle.pp_model.specs.declared.Change.{Change}
 use Rattle.pp_model.specs.declared.Placed.{Placed}
-use Rattle.pp_model.specs.declared.steps.OrderEntry.{OrderEntry}
 use Rattle.pp_model.specs.History.{Stands as StandsLog}
 use Rattle.pp_model.specs.MapCalls.{Notes, Learns, seeing}
 use Rattle.pp_model.specs.Pass.{PassView}

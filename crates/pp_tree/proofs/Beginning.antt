@@ -1,20 +1,17 @@
 -- A call that was begun on a pass that rests is under way.
-use Rattle.std.proofs.Common.{◌≡◌, ℕ, zero, suc, ◌+◌, ◌-◌, ◌^◌, ◌<◌, ◌≤◌, min, Bool, true, false, List, [], ◌∷◌, length, map, get_or}
-use Rattle.std.proofs.Common.{Option, Some, None, refl, sym, ap, ◌∙◌, subst, arith}
+use Rattle.std.proofs.Common.{◌≡◌, ℕ, zero, suc, ◌^◌, ◌<◌, ◌≤◌, Bool, true, false, List, [], ◌∷◌, length, map, get_or}
+use Rattle.std.proofs.Common.{Option, refl, sym, ap, ◌∙◌, subst, arith}
 use Rattle.std.proofs.Math.Bool.{false≢true}
 use Rattle.std.specs.Prelude.{replicate}
 use Rattle.pp_link.specs.declared.layout.Sizes.{Sizes}
-use Rattle.pp_link.specs.Places.{IsNumber}
 use Rattle.pp_model.specs.declared.Call.{Call}
 use Rattle.pp_model.specs.Calls.{key_of}
 use Rattle.pp_rule.specs.declared.views.WalkSlot.{WalkSlot}
 use Rattle.pp_rule.specs.Views.{slot, blank}
 use Rattle.pp_base.specs.declared.purse.Purse.{Purse}
 use Rattle.pp_base.specs.Passes.{IsPassOf, IsAtRest, named_of}
-use Rattle.pp_seek.specs.declared.seek.Seek.{Seek}
 use Rattle.pp_seek.specs.declared.seek.Spot.{Spot}
-use Rattle.pp_seek.specs.Seeking.{AllEmpty, Seeks as IsSeek}
-use Rattle.pp_seek.specs.Trails.{IsEmpty}
+use Rattle.pp_seek.specs.Seeking.{AllEmpty}
 use Rattle.pp_trees.specs.Trees.{inf0}
 use Rattle.pp_trees.specs.Searches.{TreePass}
 use Rattle.pp_trees.specs.Edges.{TreeView}
@@ -23,10 +20,9 @@ use Rattle.pp_turns.proofs.Purses.{alone_none}
 use Rattle.pp_turns.proofs.Stretches.{waits_none}
 use Rattle.pp_tree_calls.specs.declared.going.TreeGoing.{TreeGoing}
 use Rattle.pp_tree_calls.specs.declared.going.Next.{Next}
-use Rattle.pp_tree_calls.specs.declared.going.Next.TheVariants.{Seeks}
 use Rattle.pp_tree_calls.specs.Begun.{BeginsOn}
 use Rattle.pp_tree_calls.specs.Going.{IsUnder, Stands, Begun, upper_at}
-use Rattle.pp_tree_calls.specs.Purses.{HasOut, TwoRecords, out_of}
+use Rattle.pp_tree_calls.specs.Purses.{HasOut}
 
 names_at : (ws : List WalkSlot) (k j : ℕ) → map named_of ws ≡ replicate k zero → (get_or ws j blank).named ≡ 0
 names_at [] k j is = refl

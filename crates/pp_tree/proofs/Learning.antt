@@ -1,13 +1,9 @@
 -- A call is under way still where its pass learnt of more steps of others.
-use Rattle.std.proofs.Common.{◌≡◌, ◌≢◌, ◌⊎◌, ℕ, zero, suc, ◌+◌, ◌<◌, ◌≤◌, ◌^◌, min, Bool, true, false, List, [], ◌∷◌, length, map}
-use Rattle.std.proofs.Common.{Option, Some, None, refl, sym, ap, ◌∙◌, subst, ⊎_elim, inl, inr, arith}
+use Rattle.std.proofs.Common.{◌≡◌, ℕ, Bool, true, false, List, length}
+use Rattle.std.proofs.Common.{Option, sym, ap, ◌∙◌, subst, ⊎_elim, inl, inr}
 use Rattle.pp_link.specs.declared.layout.Sizes.{Sizes}
-use Rattle.pp_link.specs.declared.link.Link.{Link}
 use Rattle.pp_model.specs.declared.Call.{Call}
-use Rattle.pp_model.specs.declared.Call.TheVariants.{Insert}
-use Rattle.pp_model.specs.declared.steps.Step.{Step}
 use Rattle.pp_model.specs.declared.Reply.TheVariants.{Took}
-use Rattle.pp_model.specs.Pass.{MapSizes}
 use Rattle.pp_rule.specs.Lists.{BeginsWith}
 use Rattle.pp_rule.specs.Orders.{log_of, made_by, placed_by}
 use Rattle.pp_rule.proofs.Histories.{log_begins}
@@ -15,7 +11,7 @@ use Rattle.pp_base.specs.declared.purse.Purse.{Purse}
 use Rattle.pp_base.specs.declared.source.Side.{Side}
 use Rattle.pp_base.specs.Passes.{IsAtRest}
 use Rattle.pp_base.specs.Sources.{side_number}
-use Rattle.pp_calls.specs.PoolViews.{pool_view, link_writes}
+use Rattle.pp_calls.specs.PoolViews.{link_writes}
 use Rattle.pp_calls.specs.Steps.{Went}
 use Rattle.pp_shelf.specs.Runs.{map_sizes, steps_made}
 use Rattle.pp_seek.specs.declared.seek.Spot.{Spot}
@@ -24,7 +20,7 @@ use Rattle.pp_trees.specs.Trees.{across}
 use Rattle.pp_trees.specs.Searches.{TreePass}
 use Rattle.pp_trees.specs.Edges.{TreeView}
 use Rattle.pp_turns.specs.Tallies.{later_of}
-use Rattle.pp_turns.specs.Turns.{Since, Waits, Unplaced, Struck, WasAbsent}
+use Rattle.pp_turns.specs.Turns.{Since, Unplaced, WasAbsent}
 use Rattle.pp_turns.proofs.Placing.{waits_learnt, since_learnt, unplaced_on, struck_later, absent_on}
 use Rattle.pp_tree_turns.specs.Walked.{tree_reader, TreeTally}
 use Rattle.pp_tree_turns.specs.Causes.{flagged_leaf, ReadsValueOf, EndedElsewhere}
@@ -85,8 +81,10 @@ module _ (z : Sizes) (share : ℕ) (from v w : TreeView) (same : w.known ≡ v.k
       → TakesWith (map_sizes z) g side t from w
   takes_learnt went g side t s = λ struck. ⊎_elim
       (λ (l : (v.known.own.flag ≡ across (side_number side)) × (v.known.own.beside ≡ flagged_leaf (steps_made from v))).
-      inl (ap (λ (q : TreePass). q.own.flag) same ∙ l.0,
-      ap (λ (q : TreePass). q.own.beside) same ∙ (l.1 ∙ sym (ap flagged_leaf (steps_same went)))))
+      inl (
+        ap (λ (q : TreePass). q.own.flag) same ∙ l.0,
+        ap (λ (q : TreePass). q.own.beside) same ∙ (l.1 ∙ sym (ap flagged_leaf (steps_same went))),
+      ))
       (λ (r : EndedElsewhere (map_sizes z) g.call (later_of t)). inr r) (s struck)
 
   begun_learnt : (fresh : Bool) (g : TreeGoing) (spot : Option Spot) → Begun fresh z g spot from v → Begun fresh z g spot from w
@@ -126,17 +124,29 @@ module _ (z : Sizes) (share : ℕ) (from v w : TreeView) (same : w.known ≡ v.k
   )
   stands_learnt g (Tags s side) x = (
     tries_learnt g g.lost x.0,
-    (goes_learnt g x.1.0, (x.1.1.0, (
-      subst (λ (q : TreePass). TagsNext q s side) (sym same) x.1.1.1.0,
-      takes_learnt x.0.counts.since.went g side x.0.counts.tally x.1.1.1.1,
-    ))),
+    (
+      goes_learnt g x.1.0,
+      (
+        x.1.1.0,
+        (
+          subst (λ (q : TreePass). TagsNext q s side) (sym same) x.1.1.1.0,
+          takes_learnt x.0.counts.since.went g side x.0.counts.tally x.1.1.1.1,
+        ),
+      ),
+    ),
   )
   stands_learnt g (Splices s side sibling) x = (
     tries_learnt g g.lost x.0,
-    (goes_learnt g x.1.0, (x.1.1.0, (
-      subst (λ (q : TreePass). SplicesNext z q s side sibling) (sym same) x.1.1.1.0,
-      takes_learnt x.0.counts.since.went g side x.0.counts.tally x.1.1.1.1,
-    ))),
+    (
+      goes_learnt g x.1.0,
+      (
+        x.1.1.0,
+        (
+          subst (λ (q : TreePass). SplicesNext z q s side sibling) (sym same) x.1.1.1.0,
+          takes_learnt x.0.counts.since.went g side x.0.counts.tally x.1.1.1.1,
+        ),
+      ),
+    ),
   )
   stands_learnt g Over x = x
 

@@ -17,9 +17,8 @@ use pp_edges::TreeShape;
 use pp_link::Sizes;
 use pp_model::NoMemory;
 use pp_pool::opening::make_pool;
-use std::alloc::Global;
-
 pub use pp_tree_calls::TreeGoing;
+use std::alloc::Global;
 
 /// An external search tree: the pairs stand in its leaves. Each of its callers has a pass, and all of them may make their calls
 /// beside each other.

@@ -1,7 +1,7 @@
-use Rattle.std.proofs.Common.{◌≡◌, ℕ, refl, sym, ap, ◌∙◌, subst}
+use Rattle.std.proofs.Common.{ℕ, sym, ◌∙◌, subst}
 use Rattle.pp_model.specs.MapCalls.{Learns}
 use Rattle.pp_base.specs.declared.purse.Purse.{Purse}
-use Rattle.pp_base.specs.Passes.{known, view}
+use Rattle.pp_base.specs.Passes.{view}
 use Rattle.pp_calls.specs.PoolViews.{pool_view}
 use Rattle.pp_calls.proofs.Purses.{same_share, has_own}
 use Rattle.pp_ends.specs.Ends.{note_in}

@@ -1,4 +1,4 @@
-use Rattle.std.proofs.Common.{◌≡◌, ℕ, refl, sym, ap, ◌∙◌, subst}
+use Rattle.std.proofs.Common.{ℕ, sym, subst}
 use Rattle.pp_model.specs.MapCalls.{MakesTurn, AnswersCall, Counted, IfOn, IfDone}
 use Rattle.pp_model.specs.Pass.{PassView}
 use Rattle.pp_base.specs.Passes.{known, view}
