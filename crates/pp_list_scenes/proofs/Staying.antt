@@ -1,6 +1,7 @@
 -- The passes of a scene after a call, or after they tidied their purses.
 use Rattle.std.proofs.Common.{◌≡◌, ℕ, zero, suc, List, [], ◌∷◌, ◌++◌, ◌∙◌, refl, subst}
 use Rattle.std.proofs.lemmas.Option.{same_Some}
+use Rattle.pp_link.specs.declared.layout.Sizes.{Sizes}
 use Rattle.pp_model.specs.declared.Change.{Change}
 use Rattle.pp_model.specs.declared.Placed.{Placed}
 use Rattle.pp_model.specs.Lists.{AtEach}
@@ -40,13 +41,13 @@ each_three P x y z px py pz (suc k) v at = each_two (λ j. P (suc j)) y z py pz 
 
 module _ {S : Type 0} {shape : Ghosts S Change Placed ListOwn} where
   -- A pass between its calls made steps at its purse, and is so again.
-  pub still_ready : (t : Buckets) (p p' : Pass S Change Placed ListOwn shape) (names : List NamedStep)
-      → PurseSteps t.pool.layout names (view p.seat) (view p'.seat) → IsSame p.seat p'.seat → HasOwn (view p'.seat).order
+  pub still_ready : (t : Buckets) (z : Sizes) (p p' : Pass S Change Placed ListOwn shape) (names : List NamedStep)
+      → PurseSteps z names (view p.seat) (view p'.seat) → IsSame p.seat p'.seat → HasOwn (view p'.seat).order
       → IsIdle p'.walk p'.purse → IsAtRest (known p'.seat) p'.purse → IsReady t p → IsReady t p'
-  still_ready t p p' names made same own idle rest ready = record {
+  still_ready t z p p' names made same own idle rest ready = record {
     member = record {
       fits = record { table_is = same.table_is ∙ ready.member.fits.table_is; sizes = same.sizes ∙ ready.member.fits.sizes };
-      stands = (aside_at_purse t.pool.layout names (view p.seat) (view p'.seat) made).stands own ready.member.stands;
+      stands = (aside_at_purse z names (view p.seat) (view p'.seat) made).stands own ready.member.stands;
     };
     resting = record { idle = idle; rest = rest };
   }

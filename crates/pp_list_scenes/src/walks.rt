@@ -1,9 +1,12 @@
 //! Walks alone, turn by turn: what they find, and which records they hold.
 
+ghost use Rattle.std.specs.Prelude.{◌≡◌};
 ghost use Rattle.pp_model.specs.Calls.{key_of};
 ghost use Rattle.pp_list_scenes.specs.Staff.{IsReady, IsWalking};
 
-use crate::staging::{RACES, add_all, begin, go_on, open_one, open_three, open_two, reclaim_so_many, remove};
+use crate::staging::{
+    RACES, add_all, begin, go_on, open_one, open_three, open_two, reclaim_so_many, remove,
+};
 use pp_base::{Pass, Place};
 use pp_buckets::Buckets;
 use pp_model::Call;
@@ -117,7 +120,12 @@ fn walks_meet_a_removed_record(rt: HostRuntime) {
 #[test]
 fn a_changing_walk_gathers_what_two_callers_marked(rt: HostRuntime) {
     let (table, mut first, mut second, mut third) = open_three(&rt, rt.alloc(), 15);
-    add_all(&rt, &table, &mut third, &[(10, 1), (20, 1), (30, 1), (40, 1)]);
+    add_all(
+        &rt,
+        &table,
+        &mut third,
+        &[(10, 1), (20, 1), (30, 1), (40, 1)],
+    );
     let mut twenty = begin(&table, &mut first, Call::Remove { key: 20 }, RACES);
     go_on(&rt, &table, &mut first, &mut twenty, 3, 0);
     let mut thirty = begin(&table, &mut second, Call::Remove { key: 30 }, RACES);
@@ -157,7 +165,12 @@ fn a_changing_walk_begins_again_at_an_invalid_link(rt: HostRuntime) {
 #[test]
 fn a_changing_walk_begins_again_at_an_invalid_record(rt: HostRuntime) {
     let (table, mut first, mut second, mut third) = open_three(&rt, rt.alloc(), 15);
-    add_all(&rt, &table, &mut third, &[(10, 1), (20, 2), (30, 3), (40, 4)]);
+    add_all(
+        &rt,
+        &table,
+        &mut third,
+        &[(10, 1), (20, 2), (30, 3), (40, 4)],
+    );
     let insert = Call::Insert { key: 35, value: 1 };
     let mut walk = set_out(&table, &mut first, 35, insert);
     walk_on(&rt, &table, &mut first, &mut walk, 2);
