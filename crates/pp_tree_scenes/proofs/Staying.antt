@@ -1,6 +1,5 @@
 -- The passes of a scene after a call, or after they tidied their purses.
-use Rattle.std.proofs.Common.{◌≡◌, ℕ, zero, suc, List, [], ◌∷◌, ◌++◌, ◌∙◌, refl, subst}
-use Rattle.std.proofs.lemmas.Option.{same_Some}
+use Rattle.std.proofs.Common.{zero, suc, List, [], ◌∷◌, ◌++◌, ◌∙◌, refl}
 use Rattle.pp_link.specs.declared.layout.Sizes.{Sizes}
 use Rattle.pp_model.specs.declared.Change.{Change}
 use Rattle.pp_model.specs.declared.Placed.{Placed}
@@ -25,19 +24,6 @@ each_before P (z ∷ xs) y each (suc k) x at = each_before P xs y (λ j. each (s
 pub each_last : {A : Type 0} (P : A → Type 0) (xs : List A) (y : A) → AtEach (xs ++ y ∷ []) (λ k x. P x) → P y
 each_last P [] y each = each zero y refl
 each_last P (z ∷ xs) y each = each_last P xs y (λ j. each (suc j))
-
--- what is true of one, of two and of three is so of each of a list of them
-pub each_one : {A : Type 0} (P : ℕ → A → Type 0) (x : A) → P 0 x → AtEach (x ∷ []) P
-each_one P x px zero v at = subst (λ u. P 0 u) (same_Some x v at) px
-each_one P x px (suc k) v at = absurd cc
-
-pub each_two : {A : Type 0} (P : ℕ → A → Type 0) (x y : A) → P 0 x → P 1 y → AtEach (x ∷ y ∷ []) P
-each_two P x y px py zero v at = subst (λ u. P 0 u) (same_Some x v at) px
-each_two P x y px py (suc k) v at = each_one (λ j. P (suc j)) y py k v at
-
-pub each_three : {A : Type 0} (P : ℕ → A → Type 0) (x y z : A) → P 0 x → P 1 y → P 2 z → AtEach (x ∷ y ∷ z ∷ []) P
-each_three P x y z px py pz zero v at = subst (λ u. P 0 u) (same_Some x v at) px
-each_three P x y z px py pz (suc k) v at = each_two (λ j. P (suc j)) y z py pz k v at
 
 module _ {S : Type 0} {shape : Ghosts S Change Placed TreeOwn} where
   -- A pass between its calls made steps at its purse, and is so again.

@@ -1,6 +1,6 @@
 //! A caller that helps another one whose call has stopped.
 
-use crate::staging::{add, begin, close_two, end, find, go_on, make, open_two, RACES};
+use crate::staging::{RACES, add, begin, close_two, end, find, go_on, make, open_two};
 use pp_model::{Answer, Call, Reply};
 
 // Twenty records are dealt as 6 to 13 and 14 to 20: key 30 has the leaf 20 under the internal record 19. The first caller's remove
@@ -12,8 +12,19 @@ fn an_insert_helps_a_stopped_remove_of_its_key(rt: HostRuntime) {
     add(&rt, &tree, &mut second, 30, 3);
     let mut going = begin(&tree, &mut first, Call::Remove { key: 30 }, RACES);
     go_on(&rt, &tree, &mut first, &mut going, 5, 0);
-    make(&rt, &tree, &mut second, Call::Get { key: 30 }, Answer::Said(Reply::Absent));
-    let mut helping = begin(&tree, &mut second, Call::Insert { key: 30, value: 5 }, RACES);
+    make(
+        &rt,
+        &tree,
+        &mut second,
+        Call::Get { key: 30 },
+        Answer::Said(Reply::Absent),
+    );
+    let mut helping = begin(
+        &tree,
+        &mut second,
+        Call::Insert { key: 30, value: 5 },
+        RACES,
+    );
     go_on(&rt, &tree, &mut second, &mut helping, 5, 0);
     go_on(&rt, &tree, &mut second, &mut helping, 1, 1);
     go_on(&rt, &tree, &mut second, &mut helping, 3, 1);

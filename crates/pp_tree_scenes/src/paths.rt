@@ -1,15 +1,13 @@
 //! Removals of one path, of which a single splice takes it all away.
 
-use crate::staging::{
-    add, add_all, begin, close_three, end, find, go_on, open_three, RACES,
-};
+ghost use Rattle.pp_tree_scenes.specs.Staff.{IsReady, IsGoing};
+
+use crate::staging::{RACES, add, add_all, begin, close_three, end, find, go_on, open_three};
 use pp_base::Pass;
 use pp_edges::TreeShape;
 use pp_model::{Call, Reply};
 use pp_tree::{Tree, TreeGoing};
 use std::process::Abort;
-
-ghost use Rattle.pp_tree_scenes.specs.Staff.{IsReady, IsGoing};
 
 /// A removal whose path another one has taken away goes on: its next turn is lost, and four turns later it says what it took.
 fn finish_late(rt: &impl Abort, tree: &Tree, pass: &mut Pass<TreeShape>, going: TreeGoing)

@@ -1,6 +1,8 @@
 //! A reader that makes no turn while another caller removes pairs, those on its way among them.
 
-use crate::staging::{add_all, begin, close_two, end, find, go_on, open_two, remove, remove_all, RACES};
+use crate::staging::{
+    RACES, add_all, begin, close_two, end, find, go_on, open_two, remove, remove_all,
+};
 use pp_model::{Call, Reply};
 
 // Twenty records are dealt as 6 to 13 and 14 to 20, behind the five sentinels, and the last free one is taken first: key 40 has the
@@ -29,5 +31,12 @@ fn a_reader_comes_to_its_leaf_by_one_turn_an_edge(rt: HostRuntime) {
     go_on(&rt, &tree, &mut first, &mut going, 4, 0);
     end(&rt, &tree, &mut first, going, 0, Reply::Value(3));
     let free = [6, 7, 8, 9, 10, 11, 12, 13, 14, 15, 16];
-    close_two(&rt, rt.alloc(), tree, (first, second), &[(30, 3), (40, 4)], &free);
+    close_two(
+        &rt,
+        rt.alloc(),
+        tree,
+        (first, second),
+        &[(30, 3), (40, 4)],
+        &free,
+    );
 }

@@ -1,6 +1,8 @@
 //! Smallest pools, and the ends of what keys and values may be.
 
-use crate::staging::{add, close_one, close_two, find, find_full, make, open_one, open_two, remove};
+use crate::staging::{
+    add, close_one, close_two, find, find_full, make, open_one, open_two, remove,
+};
 use pp_model::{Answer, Call, Reply};
 
 const MOST: u128 = 340282366920938463463374607431768211455;
@@ -44,7 +46,13 @@ fn the_greatest_key_and_value_are_kept(rt: HostRuntime) {
     let (tree, mut pass) = open_one(&rt, rt.alloc(), 20);
     let key = GREATEST;
     let added = Answer::Said(Reply::Added);
-    make(&rt, &tree, &mut pass, Call::Insert { key, value: MOST }, added);
+    make(
+        &rt,
+        &tree,
+        &mut pass,
+        Call::Insert { key, value: MOST },
+        added,
+    );
     let held = Answer::Said(Reply::Held(MOST));
     make(&rt, &tree, &mut pass, Call::Insert { key, value: 1 }, held);
     let value = Answer::Said(Reply::Value(MOST));

@@ -22,12 +22,7 @@ use std::process::Abort;
 pub(crate) const RACES: u64 = 100;
 
 /// A tree over so many records, and the passes of its callers.
-fn open(
-    rt: &impl Abort,
-    alloc: Global,
-    callers: u32,
-    records: u32,
-) -> (Tree, Vec<Pass<TreeShape>>)
+fn open(rt: &impl Abort, alloc: Global, callers: u32, records: u32) -> (Tree, Vec<Pass<TreeShape>>)
     requires { IsWithin (tree_sizes callers records) }
     ensures ready { AreReady result.0 result.1.items }
 {
@@ -116,13 +111,7 @@ pub(crate) fn make(
 }
 
 /// Adds a pair whose key is absent.
-pub(crate) fn add(
-    rt: &impl Abort,
-    tree: &Tree,
-    pass: &mut Pass<TreeShape>,
-    key: u32,
-    value: u32,
-)
+pub(crate) fn add(rt: &impl Abort, tree: &Tree, pass: &mut Pass<TreeShape>, key: u32, value: u32)
     requires ready { IsReady tree.now pass.old }
     ensures ready { IsReady tree.now pass.new }
 {
@@ -146,13 +135,7 @@ pub(crate) fn find_full(rt: &impl Abort, tree: &Tree, pass: &mut Pass<TreeShape>
 }
 
 /// Takes the pair of a key away, which has this value.
-pub(crate) fn remove(
-    rt: &impl Abort,
-    tree: &Tree,
-    pass: &mut Pass<TreeShape>,
-    key: u32,
-    value: u32,
-)
+pub(crate) fn remove(rt: &impl Abort, tree: &Tree, pass: &mut Pass<TreeShape>, key: u32, value: u32)
     requires ready { IsReady tree.now pass.old }
     ensures ready { IsReady tree.now pass.new }
 {
@@ -194,12 +177,7 @@ pub(crate) fn remove_all(
 }
 
 /// Begins a call, of which so many turns may be lost.
-pub(crate) fn begin(
-    tree: &Tree,
-    pass: &mut Pass<TreeShape>,
-    call: Call,
-    races: u64,
-) -> TreeGoing
+pub(crate) fn begin(tree: &Tree, pass: &mut Pass<TreeShape>, call: Call, races: u64) -> TreeGoing
     requires ready { IsReady tree.now pass.old }
     requires may { MayCall call races (pass_view pass.old) }
     ensures going { IsGoing tree.now pass.new result }
@@ -241,12 +219,7 @@ pub(crate) fn end(
 }
 
 /// Makes a reclaim pass, which makes so many records free.
-pub(crate) fn reclaim_so_many(
-    rt: &impl Abort,
-    tree: &Tree,
-    pass: &mut Pass<TreeShape>,
-    count: u32,
-)
+pub(crate) fn reclaim_so_many(rt: &impl Abort, tree: &Tree, pass: &mut Pass<TreeShape>, count: u32)
     requires ready { IsReady tree.now pass.old }
     ensures ready { IsReady tree.now pass.new }
 {

@@ -1,7 +1,7 @@
 //! A remove that stops anywhere, and what it keeps of another caller's records.
 
 use crate::staging::{
-    add_all, begin, close_two, end, go_on, open_two, reclaim_so_many, remove_all, RACES,
+    RACES, add_all, begin, close_two, end, go_on, open_two, reclaim_so_many, remove_all,
 };
 use pp_model::{Call, Reply};
 use std::alloc::Global;
@@ -22,10 +22,20 @@ fn stop_a_remove(
     lost: u64,
 ) {
     let (tree, mut first, mut second) = open_two(rt, alloc, 40);
-    add_all(rt, &tree, &mut second, &[(10, 1), (20, 2), (30, 3), (40, 4), (50, 5)]);
+    add_all(
+        rt,
+        &tree,
+        &mut second,
+        &[(10, 1), (20, 2), (30, 3), (40, 4), (50, 5)],
+    );
     let mut going = begin(&tree, &mut first, Call::Remove { key: 30 }, RACES);
     go_on(rt, &tree, &mut first, &mut going, turns, 0);
-    remove_all(rt, &tree, &mut second, &[(10, 1), (20, 2), (40, 4), (50, 5)]);
+    remove_all(
+        rt,
+        &tree,
+        &mut second,
+        &[(10, 1), (20, 2), (40, 4), (50, 5)],
+    );
     reclaim_so_many(rt, &tree, &mut second, freed);
     assert_eq!(rt; second.retired(), retired);
     assert!(rt; second.retired().len() <= 9);
