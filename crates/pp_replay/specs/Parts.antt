@@ -1,5 +1,5 @@
 -- What the parts of a replay come to.
-use Rattle.std.specs.Prelude.{◌≡◌, ℕ, ◌+◌, ◌<◌, List, Option, Some, None, ⊤}
+use Rattle.std.specs.Prelude.{◌≡◌, ◌⊎◌, ℕ, ◌+◌, ◌<◌, List, Option, Some, None, ⊤}
 use Rattle.std.specs.Io.KnownBytes.{Appends}
 use Rattle.pp_outside.specs.Outside.{Rose, GrewByPrefix}
 use Rattle.pp_model.specs.declared.Answer.{Answer}
@@ -9,7 +9,14 @@ use Rattle.pp_trace.specs.Text.{count_all, is_full, is_lost}
 use Rattle.pp_devices.specs.declared.ways.Way.{Way}
 use Rattle.pp_devices.specs.declared.ways.Way.TheVariants as way
 use Rattle.pp_devices.specs.Devices.{Device, WasUnread, WasTooLong}
+use Rattle.pp_words.specs.declared.Settings.{Settings}
+use Rattle.pp_words.specs.declared.Kind.TheVariants as kind
 use Rattle.pp_replay.specs.Replay.{HasBadLine}
+
+-- the settings choose a table of so many buckets: a list is one bucket
+abbrev pub IsTable : Settings → ℕ → Type 0
+IsTable settings buckets =
+    ((settings.map ≡ kind.List) × (buckets ≡ 1)) ⊎ ((settings.map ≡ kind.Hash) × (buckets ≡ settings.buckets))
 
 -- no read failed, and with a made trace nothing was read
 pub record WasSpared (make : Option Make) (before after : Device) : Type 0 where

@@ -1,5 +1,5 @@
 use Rattle.std.proofs.Common.{◌≡◌, ◌≤◌, map, length, vec_capacity, [], All}
-use Rattle.pp_replay.proofs.jobs.jobs_of.Given as goal
+use Rattle.pp_running.proofs.jobs.jobs_of.Given as goal
 
 -- the jobs so far have the passes and the lists that were taken so far
 abbrev pub invariant-loop-pass : goal.invariant-loop-pass

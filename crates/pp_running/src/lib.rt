@@ -1,13 +1,16 @@
-//! A run: the callers' calls on a map, and its closing.
+//! A run: the calls of all callers on a map, each caller in a thread, and its closing.
+#![tactic(auto)]
 
 ghost use Rattle.std.specs.Prelude.{◌≡◌, ◌≤◌, map, length, IfOk};
 ghost use Rattle.pp_model.specs.Lists.{AtEach};
 ghost use Rattle.pp_model.specs.History.{contents_of};
 ghost use Rattle.pp_trace.specs.TraceLists.{KeysFit};
-ghost use Rattle.pp_replay.specs.Run.{IsRunOf, IsOpened};
-ghost use Rattle.pp_replay.specs.Jobs.{HaveRoom, views_of};
+ghost use Rattle.pp_running.specs.Run.{IsRunOf, IsOpened};
+ghost use Rattle.pp_running.specs.Jobs.{HaveRoom, views_of};
 
-use crate::jobs::{jobs_of, parts_of};
+mod jobs;
+
+use jobs::{jobs_of, parts_of};
 use pp_callers::run;
 use pp_model::{Answer, Call, Closed, MapCalls, NoMemory};
 use pp_outside::Gate;

@@ -2,10 +2,10 @@ use Rattle.std.proofs.Common.{arith, ◌≡◌, ◌<◌, length, map, sym, ap, �
 use Rattle.std.specs.Prelude.{Some, slice_get}
 use Rattle.std.proofs.lemmas.Option.{slice_get_within, get_or_from_slice_get}
 use Rattle.std.proofs.lemmas.List.{take_at}
-use Rattle.pp_replay.proofs.Lists.{at_mapped}
-use Rattle.pp_replay.proofs.Numbers.{few_live}
-use Rattle.pp_replay.proofs.RunJobs.{pass_at, list_at, closes, runs}
-use Rattle.pp_replay.proofs.running.run_on.Goals as goal
+use Rattle.pp_running.proofs.Lists.{at_mapped}
+use Rattle.pp_running.proofs.Numbers.{few_live}
+use Rattle.pp_running.proofs.RunJobs.{pass_at, list_at, closes, runs}
+use Rattle.pp_running.proofs.run_on.Goals as goal
 
 pub run-requires-clause-ready : goal.run-requires-clause-ready
 run-requires-clause-ready g c κs within k x at =

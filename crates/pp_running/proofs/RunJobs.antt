@@ -13,9 +13,9 @@ use Rattle.pp_model.specs.MapCalls.{AnswersCalls, IsClosing}
 use Rattle.pp_model.proofs.Chains.{caller_kept}
 use Rattle.pp_callers.specs.declared.Job.{Job}
 use Rattle.pp_callers.specs.Jobs.{AtBoth}
-use Rattle.pp_replay.specs.Run.{IsOpened, IsRunOf}
-use Rattle.pp_replay.proofs.Runs.{is_run}
-use Rattle.pp_replay.proofs.Lists.{mapped_at, at_mapped}
+use Rattle.pp_running.specs.Run.{IsOpened, IsRunOf}
+use Rattle.pp_running.proofs.Runs.{is_run}
+use Rattle.pp_running.proofs.Lists.{mapped_at, at_mapped}
 
 -- where the jobs have these passes and these lists, the job at a position has those at the position
 module _ {P : Type 0} (passes : List P) (lists : List (Vec Call Global)) (jobs : List (Job P))

@@ -6,8 +6,8 @@ use Rattle.std.proofs.lemmas.Iterator.Adapters.{YieldsList-from_vec}
 use Rattle.std.proofs.lemmas.Iterator.Consumers.{YieldsList-end}
 use Rattle.std.proofs.lemmas.Slice.Zip.{firsts-zip, seconds-zip}
 use Rattle.std.proofs.lemmas.List.{map-append}
-use Rattle.pp_replay.proofs.Lists.{pairs_again}
-use Rattle.pp_replay.proofs.jobs.jobs_of.Goals as goal
+use Rattle.pp_running.proofs.Lists.{pairs_again}
+use Rattle.pp_running.proofs.jobs.jobs_of.Goals as goal
 
 pub loop-pass-preserved : goal.loop-pass-preserved
 loop-pass-preserved g c = record {

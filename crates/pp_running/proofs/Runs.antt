@@ -13,8 +13,8 @@ use Rattle.pp_model.specs.Pass.{PassView, MapSizes, Meaning, RunView}
 use Rattle.pp_model.specs.MapCalls.{AnswersCalls, IsClosing, caller_run, said_call, said_calls}
 use Rattle.pp_model.proofs.Chains.{mine_grown}
 use Rattle.pp_model.proofs.Closings.{closing_history}
-use Rattle.pp_replay.proofs.Lists.{at_mapped}
-use Rattle.pp_replay.specs.Run.{IsOpened, IsCaller, IsRunOf}
+use Rattle.pp_running.proofs.Lists.{at_mapped}
+use Rattle.pp_running.specs.Run.{IsOpened, IsCaller, IsRunOf}
 
 module _ (meaning : Meaning) (sizes : MapSizes) (races : ℕ) (opened closed : List PassView) (lists : List (List Call))
     (answers : List (List Answer)) (contents : List Pair) (free : List ℕ) (run : RunView)

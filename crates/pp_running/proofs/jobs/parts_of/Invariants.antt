@@ -1,5 +1,5 @@
 use Rattle.std.proofs.Common.{◌≡◌, map}
-use Rattle.pp_replay.proofs.jobs.parts_of.Given as goal
+use Rattle.pp_running.proofs.jobs.parts_of.Given as goal
 
 -- the parts so far are those of the jobs that were taken so far
 abbrev pub invariant-loop-job : goal.invariant-loop-job

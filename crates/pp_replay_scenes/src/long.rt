@@ -1,0 +1,84 @@
+//! Long traces over callers that share their keys, and made traces run again.
+
+use crate::replaying::{SOUND, replayed};
+use pp_outside::NoGate;
+use std::alloc::Global;
+use std::test::Fail;
+
+/// The next state of the generator of made traces.
+fn drawn(state: u64) -> u64 {
+    state.wrapping_mul(1103515245).wrapping_add(12345) % 2147483648
+}
+
+/// A trace of so many lines by eight callers in turn, over 10,000 keys that all of them share: one half gets, one quarter inserts,
+/// one quarter removes.
+fn shared(alloc: Global, lines: u32) -> Result<String, Fail> {
+    let mut text = String::new(alloc);
+    let mut state = 1u64;
+    for line in 0..lines {
+        let caller = line % 8;
+        state = drawn(state);
+        let kind = state / 65536 % 4;
+        state = drawn(state);
+        let key = state / 65536 % 10000;
+        let call = match kind {
+            0 => format!(in alloc; "{caller} insert {key} {state}\n")?,
+            1 => format!(in alloc; "{caller} remove {key}\n")?,
+            _ => format!(in alloc; "{caller} get {key}\n")?,
+        };
+        text.push_str(call.as_str())?;
+    }
+    Ok(text)
+}
+
+/// Each of eight callers has so many answers, one after another, and then come contents of which there are as many as are said, with
+/// keys that rise.
+fn check(rt: &HostRuntime, text: &str, calls: u32) -> Result<(), Fail> {
+    let mut lines = text.lines();
+    for caller in 0..8u32 {
+        for number in 1..=calls {
+            let start = format!(in rt.alloc(); "{caller} {number} ")?;
+            let line = lines.next().unwrap_or("");
+            assert!(rt; line.starts_with(start.as_str()), "{line}");
+        }
+    }
+    let head = lines.next().unwrap_or("");
+    let mut count = 0u32;
+    let mut least = 0u64;
+    for line in lines {
+        let (key, _) = line.split_once(' ').unwrap_or(("", ""));
+        let key = key.parse::<u64>()?;
+        assert!(rt; key >= least, "{line}");
+        least = key.saturating_add(1);
+        count = count.saturating_add(1);
+    }
+    assert_eq!(rt; head, format!(in rt.alloc(); "contents {count}")?.as_str());
+    Ok(())
+}
+
+#[test]
+fn eight_callers_share_their_keys(rt: HostRuntime) -> Result<(), Fail> {
+    let trace = shared(rt.alloc(), 200_000)?;
+    let line = "--map hash --callers 8";
+    let got = replayed(&rt, rt.alloc(), line, trace.as_bytes(), &SOUND, &NoGate)?;
+    assert_eq!(rt; got.status, 0);
+    check(&rt, String::from_utf8(got.sink)?.as_str(), 25_000)
+}
+
+#[test]
+fn made_traces_come_to_the_same_each_time(rt: HostRuntime) -> Result<(), Fail> {
+    let rows = [
+        "--map hash --callers 4 --records 262144 --make 1,100000",
+        "--map list --callers 4 --records 262144 --make 1,10000",
+    ];
+    for line in rows {
+        let first = replayed(&rt, rt.alloc(), line, b"", &SOUND, &NoGate)?;
+        assert_eq!(rt; first.status, 0, "{line}");
+        for _ in 0..2 {
+            let again = replayed(&rt, rt.alloc(), line, b"", &SOUND, &NoGate)?;
+            assert_eq!(rt; again.status, 0, "{line}");
+            assert_eq!(rt; again.sink.as_slice(), first.sink.as_slice(), "{line}");
+        }
+    }
+    Ok(())
+}
