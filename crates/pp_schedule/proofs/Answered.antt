@@ -88,7 +88,7 @@ module _ (meaning : Meaning) (sizes : MapSizes) (races : ℕ) where
   chains_last opened all plan s t turns (rest c _ m _ later low move plays) chains =
       chains_last opened all [] m t later plays (chains_move opened all s m c move chains)
 
-  over_last : (plan : List ℕ) (s t : Moment) (turns : List ℕ) → Plays meaning sizes races plan s turns t
+  pub over_last : (plan : List ℕ) (s t : Moment) (turns : List ℕ) → Plays meaning sizes races plan s turns t
       → (k : ℕ) (v : CallerAt) → slice_get t.callers k ≡ Some v → Answered v
   over_last plan s t turns (ended _ over) k v at = over k v at
   over_last plan s t turns (passed c plan' _ _ _ over plays) k v at = over_last plan' s t turns plays k v at

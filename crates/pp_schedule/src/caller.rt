@@ -79,11 +79,15 @@ where
     M::Pass: Drop,
     M::Going: Drop,
 {
-    calls: Vec<Call>,
-    next: usize,
-    answers: Vec<Answer>,
-    pass: Option<M::Pass>,
-    call: Option<CallFuture<'a, M>>,
+    /// Its calls, in their order.
+    pub calls: Vec<Call>,
+    /// How many of them were begun.
+    pub next: usize,
+    pub answers: Vec<Answer>,
+    /// Its pass, where no call is going.
+    pub pass: Option<M::Pass>,
+    /// The call that is going.
+    pub call: Option<CallFuture<'a, M>>,
 }
 
 impl<'a, M: MapCalls> Drop for Caller<'a, M>
@@ -119,6 +123,20 @@ where
             pass: Some(pass),
             call: None,
         }
+    }
+
+    /// Its pass, where no call is going, and the answers so far.
+    pub fn into_parts(self) -> (Option<M::Pass>, Vec<Answer>)
+        ensures { (result.0 ≡ self.entry.pass) × (result.1 ≡ self.entry.answers) }
+    {
+        let Caller {
+            calls: _,
+            next: _,
+            answers,
+            pass,
+            call: _,
+        } = self;
+        (pass, answers)
     }
 
     /// The answers so far.
