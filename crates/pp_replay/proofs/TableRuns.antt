@@ -56,9 +56,12 @@ module _ (settings : Settings) (buckets : ℕ) where
   pub table_sized : IsTable settings buckets → map_sizes (table_sizes settings.callers settings.records buckets) ≡ sizes_of settings
   table_sized is = λ i. record { passes = settings.callers; records = settings.records; heads = table_heads is i }
 
+  all : settings.records ≡ settings.records - 0
+  all = omega arith
+
   table_dealt : IsTable settings buckets → dealt settings.map (sizes_of settings) ≡ settings.records - 0
-  table_dealt (inl is) = ap (λ k. dealt k (sizes_of settings)) is.0
-  table_dealt (inr is) = ap (λ k. dealt k (sizes_of settings)) is.0
+  table_dealt (inl is) = ap (λ k. dealt k (sizes_of settings)) is.0 ∙ all
+  table_dealt (inr is) = ap (λ k. dealt k (sizes_of settings)) is.0 ∙ all
 
   pub table_shares : IsTable settings buckets → (c : ℕ)
       → pool_share 0 (table_sizes settings.callers settings.records buckets) c ≡ share_of settings.map (sizes_of settings) c

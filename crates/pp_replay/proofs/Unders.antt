@@ -22,6 +22,7 @@ use Rattle.pp_words.specs.Words.{InRange}
 use Rattle.pp_running.specs.Run.{IsRunOf, IsCaller}
 use Rattle.pp_replay.specs.Replay.{IsRunUnder, meaning_of, sizes_of, share_of}
 use Rattle.pp_replay.specs.Printed.{AreShort}
+use Rattle.pp_replay.specs.Parts.{IsChosen}
 
 -- ---- no answer of a kind
 
@@ -132,8 +133,19 @@ module _ (settings : Settings) (opened : List PassView) (lists : List (List Call
   }
 
 -- a map has no more pairs than live records
-pub few_pairs : (k : Kind) (n : ℕ) → n ≤ (meaning_of k).live n
+few_pairs : (k : Kind) (n : ℕ) → n ≤ (meaning_of k).live n
 few_pairs kind.Plain n = omega arith
 few_pairs kind.List n = omega arith
 few_pairs kind.Hash n = omega arith
 few_pairs kind.Tree n = omega arith
+
+-- a map with the meaning and the sizes of the one that the settings choose is that one
+pub chosen : (settings : Settings) (meaning : Meaning) (sizes : MapSizes) → meaning ≡ meaning_of settings.map → sizes ≡ sizes_of settings
+    → IsChosen meaning sizes settings
+chosen settings meaning sizes meant sized = record {
+  sizes_are = sized;
+  runs = λ opened lists answers run ran.
+      subst (λ (m : Meaning). IsRunOf m (sizes_of settings) settings.races opened lists answers run) meant
+      (subst (λ (z : MapSizes). IsRunOf meaning z settings.races opened lists answers run) sized ran);
+  live = λ n. subst (λ (m : Meaning). n ≤ m.live n) (sym meant) (few_pairs settings.map n);
+}

@@ -9,7 +9,6 @@ use Rattle.pp_model.specs.declared.plain.PlainKept.{PlainKept}
 use Rattle.pp_model.specs.Pass.{RunView}
 use Rattle.pp_model.specs.Plain.{plain_run}
 use Rattle.pp_pool.specs.declared.closing.Witness.{Witness}
-use Rattle.pp_rule.specs.declared.shape.Shape.{Ghosts}
 use Rattle.pp_replay.specs.declared.ending.Kept.{Kept}
 use Rattle.pp_replay.specs.declared.ending.Kept.TheVariants as kept
 use Rattle.pp_replay.specs.declared.ending.Ending.TheInside.{Inside}
@@ -20,7 +19,7 @@ abbrev pub plain_kept_run : PlainKept → RunView
 plain_kept_run witness = plain_run witness.records witness.placed.items
 
 -- the run that the witness of a pool shows, of whichever shape
-abbrev pub pool_kept_run : {S W : Type 0} {shape : Ghosts S Change Placed W} → Witness S Change Placed W shape → RunView
+abbrev pub pool_kept_run : {S W : Type 0} → Witness S Change Placed W → RunView
 pool_kept_run witness = pool_run (view witness.seat) witness.live.items
 
 -- the run that a closed map's witness shows, if one was closed

@@ -4,7 +4,8 @@ ghost use Rattle.std.specs.Prelude.{◌≡◌, ℕ, List, map, length, [], None,
 ghost use Rattle.pp_devices.specs.Devices.{Device, device, world};
 ghost use Rattle.pp_devices.specs.declared.ways.Way.TheVariants as Way;
 ghost use Rattle.pp_model.specs.Lists.{AtEach};
-ghost use Rattle.pp_replay.specs.Replay.{Cause, HasCalls, IsBuilt, meaning_of, share_of, sizes_of};
+ghost use Rattle.pp_replay.specs.Parts.{IsChosen};
+ghost use Rattle.pp_replay.specs.Replay.{Cause, HasCalls, IsBuilt, share_of, sizes_of};
 ghost use Rattle.pp_replay.specs.View.{shown_run};
 ghost use Rattle.pp_running.specs.Jobs.{AreCalls, HaveRoom, views_of};
 ghost use Rattle.pp_running.specs.Run.{IsOpened};
@@ -45,8 +46,7 @@ where
     requires within { InRange settings }
     requires built { IsBuilt settings.map }
     requires calls { AreCalls settings.callers (map (λ v. v.items) lists.items) }
-    requires meant { M.meaning ≡ meaning_of settings.map }
-    requires sized { M.sizes chosen ≡ sizes_of settings }
+    requires chosen { IsChosen M.meaning (M.sizes chosen) settings }
     requires count { length passes.items ≡ settings.callers }
     requires passes { AtEach passes.items (λ c pass. M.Belongs chosen pass × M.Idle pass × IsOpened c (M.pass_view pass)) }
     requires shares { AtEach passes.items (λ c pass. (M.pass_view pass).share ≡ share_of settings.map (sizes_of settings) c) }

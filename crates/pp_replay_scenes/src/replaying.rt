@@ -55,15 +55,7 @@ pub fn replayed<R: Threads + Sync, G: Gate + Sync>(
     let writes = devices.failing_writes.to_vec(alloc)?;
     let mut sink = MemSink::new(alloc, devices.write.max(1), writes);
     let mut errs = MemSink::new(alloc, 7, Vec::new(alloc));
-    let ending = replay(
-        rt,
-        alloc,
-        &words,
-        &mut source,
-        &mut sink,
-        &mut errs,
-        gate,
-    );
+    let ending = replay(rt, alloc, &words, &mut source, &mut sink, &mut errs, gate);
     Ok(Shown {
         status: ending.status,
         sink: sink.written().to_vec(alloc)?,

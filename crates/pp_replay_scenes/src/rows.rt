@@ -263,7 +263,10 @@ fn one_of_two_inserts_is_held(rt: HostRuntime) -> Result<(), Fail> {
     for line in ["--map list --callers 2", "--map hash --callers 2"] {
         let got = replayed(&rt, rt.alloc(), line, trace, &SOUND, &NoGate)?;
         assert_eq!(rt; got.status, 0, "{line}");
-        assert!(rt; got.sink.as_slice() == first || got.sink.as_slice() == second, "{line}");
+        assert!(rt;
+            got.sink.as_slice() == first || got.sink.as_slice() == second,
+            "{line}"
+        );
     }
     Ok(())
 }

@@ -1,11 +1,12 @@
 use Rattle.std.proofs.Common.{arith, ◌<◌, ◌≤◌, length, map, refl, sym, ap, subst}
 use Rattle.std.proofs.lemmas.List.{length-map}
 use Rattle.std.proofs.lemmas.Option.{slice_get_read}
-use Rattle.pp_model.specs.Lists.{AtEach}
+use Rattle.pp_model.specs.Plain.{plain_meaning, plain_sizes}
 use Rattle.pp_running.proofs.Lists.{at_mapped}
-use Rattle.pp_replay.specs.Replay.{meaning_of, share_of, sizes_of}
+use Rattle.pp_replay.specs.Replay.{meaning_of}
 use Rattle.pp_replay.proofs.PlainRuns.{plain_shares, plain_sized}
 use Rattle.pp_replay.proofs.Finishes.{refused}
+use Rattle.pp_replay.proofs.Unders.{chosen}
 use Rattle.pp_replay.proofs.attempt.run_plain.Goals as goal
 
 pub overflow_cast-calls : goal.overflow_cast-calls
@@ -24,16 +25,14 @@ overflow_cast-calls g c =
     omega (arith, short_one, c.len-calls.ensures, c.index.result.now.ok.0)
 
 pub run_shown-shown-requires-clause-built : goal.run_shown-shown-requires-clause-built
-run_shown-shown-requires-clause-built g c = rw c.requires.plain tt
+run_shown-shown-requires-clause-built g c κs within = rw c.requires.plain tt
 
-pub run_shown-shown-requires-clause-meant : goal.run_shown-shown-requires-clause-meant
-run_shown-shown-requires-clause-meant g c = sym (ap meaning_of c.requires.plain)
-
-pub run_shown-shown-requires-clause-sized : goal.run_shown-shown-requires-clause-sized
-run_shown-shown-requires-clause-sized g c = rw c.in-Ok.ensures.sizes (plain_sized c.args.settings c.requires.within c.requires.plain)
+pub run_shown-shown-requires-clause-chosen : goal.run_shown-shown-requires-clause-chosen
+run_shown-shown-requires-clause-chosen g c κs within = rw c.in-Ok.ensures.sizes (chosen c.args.settings plain_meaning (plain_sizes c.args.settings.records)
+    (sym (ap meaning_of c.requires.plain)) (plain_sized c.args.settings c.requires.within c.requires.plain))
 
 pub run_shown-shown-requires-clause-shares : goal.run_shown-shown-requires-clause-shares
-run_shown-shown-requires-clause-shares g c = rw c.in-Ok-from_array.ensures.items
+run_shown-shown-requires-clause-shares g c κs within = rw c.in-Ok-from_array.ensures.items
     (plain_shares c.args.settings c.requires.within c.requires.plain c.in-Ok.pass c.in-Ok.ensures.share)
 
 pub returns-in_default : goal.returns-in_default
