@@ -1,16 +1,14 @@
--- What a closed list tells is what a closed map does.
-use Rattle.std.proofs.Common.{◌≡◌, ℕ, ◌+◌, ◌≤◌, Bool, true, false, cond, List, [], ◌∷◌, Option, Some, None, refl, sym, ap, ◌∙◌, subst, arith}
+-- The map that a sound log leaves is what a closed map has to hold.
+use Rattle.std.proofs.Common.{◌≡◌, ℕ, Bool, true, false, cond, List, [], ◌∷◌, Option, Some, None, refl, sym, subst, arith}
 use Rattle.std.specs.Prelude.{nat_eq}
-use Rattle.pp_link.specs.declared.layout.Sizes.{Sizes}
 use Rattle.pp_model.specs.declared.Call.{Call}
 use Rattle.pp_model.specs.declared.Call.TheVariants.{Get, Insert, Remove, Cut}
 use Rattle.pp_model.specs.declared.Change.{Change}
 use Rattle.pp_model.specs.declared.Pair.{Pair}
 use Rattle.pp_model.specs.Calls.{key_of, map_after, map_after_at}
 use Rattle.pp_model.specs.FiniteMap.{find, drop_key, KeysRise}
-use Rattle.pp_model.specs.History.{run_from, contents_of}
+use Rattle.pp_model.specs.History.{run_from, contents_of, Sound}
 use Rattle.pp_model.proofs.Maps.{RisesFrom-put, RisesFrom-drop_key}
-use Rattle.pp_lists.specs.Lists.{ListTells}
 use Rattle.pp_ends.specs.Ends.{TellsMap}
 
 cut_rises : (b : Bool) (m : List Pair) (k : ℕ) → KeysRise m → KeysRise (cond b (drop_key m k) m)
@@ -31,9 +29,9 @@ run_rises : (log : List Change) (m : List Pair) → KeysRise m → KeysRise (run
 run_rises [] m r = r
 run_rises (c ∷ log) m r = run_rises log (map_after m c.call) (rises_at m c.call (find m (key_of c.call)) refl r)
 
-pub tells_map : (z : Sizes) (log : List Change) (pairs : List Pair) → ListTells z log pairs → TellsMap log pairs
-tells_map z log pairs t = record {
-  sound = t.sound;
-  contents_are = t.contents;
-  keys_rise = subst KeysRise (sym t.contents) (run_rises log [] tt);
+pub tells_map : (log : List Change) (pairs : List Pair) → Sound log → pairs ≡ contents_of log → TellsMap log pairs
+tells_map log pairs sound is = record {
+  sound = sound;
+  contents_are = is;
+  keys_rise = subst KeysRise (sym is) (run_rises log [] tt);
 }
