@@ -6,8 +6,11 @@ use Rattle.pp_model.specs.Lists.{AtEach}
 use Rattle.pp_model.specs.Pass.{PassView}
 use Rattle.pp_rule.specs.declared.shape.Shape.{Ghosts}
 use Rattle.pp_base.specs.declared.pool.Pass.{Pass}
+use Rattle.pp_base.specs.Passes.{known, Fits}
 use Rattle.pp_lists.specs.declared.own.ListOwn.{ListOwn}
 use Rattle.pp_turns.specs.Passes.{IsMember, IsResting}
+use Rattle.pp_walk.specs.declared.walk.Walk.{Walk}
+use Rattle.pp_walk.specs.Roles.{IsWalk}
 use Rattle.pp_list.specs.declared.going.ListGoing.{ListGoing}
 use Rattle.pp_buckets.specs.declared.Buckets.{Buckets}
 use Rattle.pp_buckets.specs.Tables.{IsCalling}
@@ -27,3 +30,8 @@ module _ {S : Type 0} {shape : Ghosts S Change Placed ListOwn} where
     pub member : IsMember t.pool.table.shared.table_id t.pool.layout p
     pub before : PassView
     pub under : IsCalling t.pool.layout p g before
+
+  -- a pass of the table with a walk that stands somewhere
+  pub record IsWalking (t : Buckets) (p : Pass S Change Placed ListOwn shape) (w : Walk) : Type 0 where
+    pub fits : Fits t.pool.table.shared.table_id t.pool.layout p.seat
+    pub walk : IsWalk t.pool.layout (known p.seat) w

@@ -16,4 +16,6 @@ mod stopped;
 #[cfg(test)]
 mod tables;
 #[cfg(test)]
+mod walks;
+#[cfg(test)]
 mod writers;

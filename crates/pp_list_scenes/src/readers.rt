@@ -1,8 +1,8 @@
 //! A reader that makes no turn while other callers remove records, those where it stands among them.
 
 use crate::staging::{
-    add_all, begin, close_three, close_two, end, find, go_on, make, open_three, open_two,
-    reclaim_so_many, remove, remove_all, retire_chains, RACES,
+    RACES, add_all, begin, close_three, close_two, end, find, go_on, make, open_three, open_two,
+    reclaim_so_many, remove, remove_all, retire_chains,
 };
 use pp_model::{Call, Reply};
 
@@ -19,7 +19,14 @@ fn a_stalled_reader_walks_a_detached_record(rt: HostRuntime) {
     end(&rt, &table, &mut first, going, 0, Reply::Value(3));
     find(&rt, &first, 0, &[], &[1, 2, 3, 4]);
     let passes = (first, second);
-    close_two(&rt, rt.alloc(), table, passes, &[(10, 1), (30, 3)], &[1, 2, 3, 4, 5, 7]);
+    close_two(
+        &rt,
+        rt.alloc(),
+        table,
+        passes,
+        &[(10, 1), (30, 3)],
+        &[1, 2, 3, 4, 5, 7],
+    );
 }
 
 // Where the detached record was invalidated, the reader begins again.
@@ -36,7 +43,14 @@ fn a_stalled_reader_begins_again_at_an_invalid_link(rt: HostRuntime) {
     go_on(&rt, &table, &mut first, &mut going, 1, 1);
     end(&rt, &table, &mut first, going, 1, Reply::Value(3));
     let passes = (first, second);
-    close_two(&rt, rt.alloc(), table, passes, &[(10, 1), (30, 3)], &[1, 2, 3, 4, 5, 7]);
+    close_two(
+        &rt,
+        rt.alloc(),
+        table,
+        passes,
+        &[(10, 1), (30, 3)],
+        &[1, 2, 3, 4, 5, 7],
+    );
 }
 
 // Of three removed records the reader holds the second one, which stays retired until it goes on.
@@ -55,7 +69,14 @@ fn one_of_three_removed_records_is_held(rt: HostRuntime) {
     reclaim_so_many(&rt, &table, &mut second, 1);
     find(&rt, &second, 0, &[], &[5, 8, 6, 7]);
     let passes = (first, second);
-    close_two(&rt, rt.alloc(), table, passes, &[], &[1, 2, 3, 4, 5, 6, 7, 8]);
+    close_two(
+        &rt,
+        rt.alloc(),
+        table,
+        passes,
+        &[],
+        &[1, 2, 3, 4, 5, 6, 7, 8],
+    );
 }
 
 // Fifteen records are dealt by fives: the keys 10, 20, 30 and 40 are the records 15, 14, 13 and 12. The second caller removes 20,
@@ -63,7 +84,12 @@ fn one_of_three_removed_records_is_held(rt: HostRuntime) {
 #[test]
 fn a_reader_walks_a_chain_that_two_callers_removed(rt: HostRuntime) {
     let (table, mut first, mut second, mut third) = open_three(&rt, rt.alloc(), 15);
-    add_all(&rt, &table, &mut third, &[(10, 1), (20, 2), (30, 3), (40, 4)]);
+    add_all(
+        &rt,
+        &table,
+        &mut third,
+        &[(10, 1), (20, 2), (30, 3), (40, 4)],
+    );
     let mut going = begin(&table, &mut first, Call::Get { key: 40 }, RACES);
     go_on(&rt, &table, &mut first, &mut going, 2, 0);
     remove(&rt, &table, &mut second, 20, 2);
@@ -82,7 +108,12 @@ fn a_reader_walks_a_chain_that_two_callers_removed(rt: HostRuntime) {
 #[test]
 fn a_reader_meets_an_invalid_record_behind_a_detached_one(rt: HostRuntime) {
     let (table, mut first, mut second, mut third) = open_three(&rt, rt.alloc(), 15);
-    add_all(&rt, &table, &mut third, &[(10, 1), (20, 2), (30, 3), (40, 4)]);
+    add_all(
+        &rt,
+        &table,
+        &mut third,
+        &[(10, 1), (20, 2), (30, 3), (40, 4)],
+    );
     let mut going = begin(&table, &mut first, Call::Get { key: 40 }, RACES);
     go_on(&rt, &table, &mut first, &mut going, 2, 0);
     remove(&rt, &table, &mut second, 20, 2);

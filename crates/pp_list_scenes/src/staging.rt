@@ -1,6 +1,6 @@
 //! A table is opened, its callers' calls are made whole or by turns, their purses are emptied, and it is closed.
 
-ghost use Rattle.std.specs.Prelude.{◌≡◌, length};
+ghost use Rattle.std.specs.Prelude.{◌≡◌, ◌++◌, ◌∷◌, [], length};
 ghost use Rattle.pp_link.specs.Places.{IsWithin};
 ghost use Rattle.pp_model.specs.Lists.{AtEach};
 ghost use Rattle.pp_model.specs.MapCalls.{MayCall};
@@ -24,8 +24,14 @@ use std::process::Abort;
 /// So many lost turns a call may have, where a scene says no other number.
 pub(crate) const RACES: u64 = 100;
 
+/// The numbers of forty records.
+pub(crate) const ALL: [u32; 40] = [
+    1, 2, 3, 4, 5, 6, 7, 8, 9, 10, 11, 12, 13, 14, 15, 16, 17, 18, 19, 20, 21, 22, 23, 24, 25, 26,
+    27, 28, 29, 30, 31, 32, 33, 34, 35, 36, 37, 38, 39, 40,
+];
+
 /// A list over so many records, and the passes of its callers.
-pub(crate) fn open(
+fn open(
     rt: &impl Abort,
     alloc: Global,
     callers: u32,
@@ -40,15 +46,9 @@ pub(crate) fn open(
     made
 }
 
-/// The last pass of the list.
-pub(crate) fn last_pass(
-    rt: &impl Abort,
-    table: &Buckets,
-    passes: &mut Vec<Pass<ListShape>>,
-) -> Pass<ListShape>
-    requires ready { AreReady table.now passes.old.items }
-    ensures ready { AreReady table.now passes.new.items }
-    ensures last { IsReady table.now result }
+/// Takes the last pass from a list.
+fn take_last(rt: &impl Abort, passes: &mut Vec<Pass<ListShape>>) -> Pass<ListShape>
+    ensures { passes.old.items ≡ passes.new.items ++ result ∷ [] }
 {
     let Some(pass) = passes.pop() else {
         panic!(rt; "no pass");
@@ -56,12 +56,17 @@ pub(crate) fn last_pass(
     pass
 }
 
+/// Takes the last pass from the list of a table's passes.
+fn last_pass(rt: &impl Abort, table: &Buckets, passes: &mut Vec<Pass<ListShape>>) -> Pass<ListShape>
+    requires ready { AreReady table.now passes.old.items }
+    ensures ready { AreReady table.now passes.new.items }
+    ensures last { IsReady table.now result }
+{
+    take_last(rt, passes)
+}
+
 /// A list over so many records, and the pass of its one caller.
-pub(crate) fn open_one(
-    rt: &impl Abort,
-    alloc: Global,
-    records: u32,
-) -> (Buckets, Pass<ListShape>)
+pub(crate) fn open_one(rt: &impl Abort, alloc: Global, records: u32) -> (Buckets, Pass<ListShape>)
     requires { IsWithin (table_sizes 1 records 1) }
     ensures { IsReady result.0 result.1 }
 {
@@ -197,6 +202,31 @@ pub(crate) fn remove_all(
     }
 }
 
+/// Adds pairs with these keys, in this order, each with its key as its value.
+pub(crate) fn add_keys(rt: &impl Abort, table: &Buckets, pass: &mut Pass<ListShape>, keys: &[u32])
+    requires ready { IsReady table.now pass.old }
+    ensures ready { IsReady table.now pass.new }
+{
+    for key in keys {
+        add(rt, table, pass, *key, *key);
+    }
+}
+
+/// Takes such pairs away, in this order.
+pub(crate) fn remove_keys(
+    rt: &impl Abort,
+    table: &Buckets,
+    pass: &mut Pass<ListShape>,
+    keys: &[u32],
+)
+    requires ready { IsReady table.now pass.old }
+    ensures ready { IsReady table.now pass.new }
+{
+    for key in keys {
+        remove(rt, table, pass, *key, *key);
+    }
+}
+
 /// Begins a call, of which so many turns may be lost.
 pub(crate) fn begin(
     table: &Buckets,
@@ -269,19 +299,35 @@ pub(crate) fn retire_chains(table: &Buckets, pass: &mut Pass<ListShape>)
 }
 
 /// Makes a reclaim pass, which makes so many records free.
-pub(crate) fn reclaim_so_many(rt: &impl Abort, table: &Buckets, pass: &mut Pass<ListShape>, count: u32)
+pub(crate) fn reclaim_so_many(
+    rt: &impl Abort,
+    table: &Buckets,
+    pass: &mut Pass<ListShape>,
+    count: u32,
+)
     requires ready { IsReady table.now pass.old }
     ensures ready { IsReady table.now pass.new }
 {
     assert_eq!(rt; reclaim(table.pool(), pass), count);
 }
 
-/// Puts the last free record on a shelf, if the pass has more than its share. Tells whether it did.
-pub(crate) fn put_last(table: &Buckets, pass: &mut Pass<ListShape>) -> bool
+/// Puts the last free record on a shelf, if the pass has more than its share and a shelf is empty. Tells whether it did.
+fn put_last(table: &Buckets, pass: &mut Pass<ListShape>) -> bool
     requires ready { IsReady table.now pass.old }
     ensures ready { IsReady table.now pass.new }
 {
     put(table.pool(), pass)
+}
+
+/// Puts so many free records on shelves, one after another, and then no more.
+pub(crate) fn put_so_many(rt: &impl Abort, table: &Buckets, pass: &mut Pass<ListShape>, count: u32)
+    requires ready { IsReady table.now pass.old }
+    ensures ready { IsReady table.now pass.new }
+{
+    for _ in 0..count {
+        assert!(rt; put_last(table, pass));
+    }
+    assert!(rt; !put_last(table, pass));
 }
 
 /// A pass has so many chains in hand, and these records are retired and free with it.

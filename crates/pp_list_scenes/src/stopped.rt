@@ -1,16 +1,11 @@
 //! A caller that stops anywhere, and what it keeps of another caller's records.
 
 use crate::staging::{
-    add_all, begin, close_two, end, go_on, open_two, reclaim_so_many, remove_all, RACES,
+    ALL, RACES, add_all, begin, close_two, end, go_on, open_two, reclaim_so_many, remove_all,
 };
 use pp_model::{Call, Reply};
 use std::alloc::Global;
 use std::process::Abort;
-
-const ALL: [u32; 40] = [
-    1, 2, 3, 4, 5, 6, 7, 8, 9, 10, 11, 12, 13, 14, 15, 16, 17, 18, 19, 20, 21, 22, 23, 24, 25, 26,
-    27, 28, 29, 30, 31, 32, 33, 34, 35, 36, 37, 38, 39, 40,
-];
 
 /// A reader of key 30 stops after so many turns. Another caller removes all three pairs and makes so many records free; these stay
 /// retired. When the reader goes on, it makes so many turns before its last one, and all of them are lost.
@@ -53,10 +48,20 @@ fn stop_a_remove(
     lost: u64,
 ) {
     let (table, mut first, mut second) = open_two(rt, alloc, 40);
-    add_all(rt, &table, &mut second, &[(10, 1), (20, 2), (30, 3), (40, 4), (50, 5)]);
+    add_all(
+        rt,
+        &table,
+        &mut second,
+        &[(10, 1), (20, 2), (30, 3), (40, 4), (50, 5)],
+    );
     let mut going = begin(&table, &mut first, Call::Remove { key: 30 }, RACES);
     go_on(rt, &table, &mut first, &mut going, turns, 0);
-    remove_all(rt, &table, &mut second, &[(10, 1), (20, 2), (40, 4), (50, 5)]);
+    remove_all(
+        rt,
+        &table,
+        &mut second,
+        &[(10, 1), (20, 2), (40, 4), (50, 5)],
+    );
     reclaim_so_many(rt, &table, &mut second, freed);
     assert_eq!(rt; second.retired(), retired);
     assert!(rt; second.retired().len() <= 9);
@@ -82,15 +87,35 @@ fn a_remove_stops_after_each_of_its_turns(rt: HostRuntime) {
 #[test]
 fn a_stopped_caller_keeps_its_frontiers_and_where_it_stands(rt: HostRuntime) {
     let (table, mut first, mut second) = open_two(&rt, rt.alloc(), 40);
-    add_all(&rt, &table, &mut second, &[(10, 1), (20, 2), (30, 3), (40, 4), (50, 5)]);
-    add_all(&rt, &table, &mut second, &[(60, 6), (70, 7), (80, 8), (90, 9), (100, 10)]);
-    remove_all(&rt, &table, &mut first, &[(10, 1), (30, 3), (50, 5), (70, 7)]);
+    add_all(
+        &rt,
+        &table,
+        &mut second,
+        &[(10, 1), (20, 2), (30, 3), (40, 4), (50, 5)],
+    );
+    add_all(
+        &rt,
+        &table,
+        &mut second,
+        &[(60, 6), (70, 7), (80, 8), (90, 9), (100, 10)],
+    );
+    remove_all(
+        &rt,
+        &table,
+        &mut first,
+        &[(10, 1), (30, 3), (50, 5), (70, 7)],
+    );
     let mut going = begin(&table, &mut first, Call::Get { key: 100 }, RACES);
     go_on(&rt, &table, &mut first, &mut going, 5, 0);
-    remove_all(&rt, &table, &mut second, &[(20, 2), (40, 4), (60, 6), (80, 8)]);
+    remove_all(
+        &rt,
+        &table,
+        &mut second,
+        &[(20, 2), (40, 4), (60, 6), (80, 8)],
+    );
     remove_all(&rt, &table, &mut second, &[(90, 9), (100, 10)]);
     reclaim_so_many(&rt, &table, &mut second, 1);
-    assert_eq!(&rt; second.retired(), [39, 37, 35, 33, 32].as_slice());
+    assert_eq!(rt; second.retired(), [39, 37, 35, 33, 32].as_slice());
     go_on(&rt, &table, &mut first, &mut going, 1, 1);
     end(&rt, &table, &mut first, going, 1, Reply::Absent);
     reclaim_so_many(&rt, &table, &mut first, 4);

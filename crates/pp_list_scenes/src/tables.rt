@@ -28,7 +28,10 @@ fn add_and_take(rt: &impl Abort, table: &Buckets, pass: &mut Pass<ListShape>)
     ensures ready { IsReady table.now pass.new }
 {
     assert_eq!(rt; table.insert(pass, 7, GREATEST, RACES), Ok(Inserted::Added));
-    assert_eq!(rt; table.insert(pass, 7, 1, RACES), Ok(Inserted::Held(GREATEST)));
+    assert_eq!(rt;
+        table.insert(pass, 7, 1, RACES),
+        Ok(Inserted::Held(GREATEST))
+    );
     assert_eq!(rt; table.get(pass, 7, RACES), Ok(Some(GREATEST)));
     assert_eq!(rt; table.remove(pass, 7, RACES), Ok(Some(GREATEST)));
 }

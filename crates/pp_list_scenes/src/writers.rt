@@ -1,8 +1,8 @@
 //! Callers that change a list beside each other.
 
 use crate::staging::{
-    add, add_all, begin, close_three, close_two, end, find, give_up, go_on, open_three, open_two,
-    reclaim_so_many, RACES,
+    RACES, add, add_all, begin, close_three, close_two, end, find, give_up, go_on, open_three,
+    open_two, reclaim_so_many,
 };
 use pp_model::{Call, Reply};
 
@@ -47,7 +47,12 @@ fn an_insert_keeps_its_record_over_a_lost_turn(rt: HostRuntime) {
 #[test]
 fn one_exchange_detaches_what_two_callers_marked(rt: HostRuntime) {
     let (table, mut first, mut second, mut third) = open_three(&rt, rt.alloc(), 15);
-    add_all(&rt, &table, &mut third, &[(10, 1), (20, 1), (30, 1), (40, 1)]);
+    add_all(
+        &rt,
+        &table,
+        &mut third,
+        &[(10, 1), (20, 1), (30, 1), (40, 1)],
+    );
     let mut twenty = begin(&table, &mut first, Call::Remove { key: 20 }, RACES);
     go_on(&rt, &table, &mut first, &mut twenty, 3, 0);
     let mut thirty = begin(&table, &mut second, Call::Remove { key: 30 }, RACES);

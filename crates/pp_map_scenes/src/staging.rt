@@ -1,7 +1,7 @@
 //! Parts of a scene over any map: a call made whole, or turn by turn. Each tells whether it went as the scene says, for a test to
 //! claim.
 
-ghost use Rattle.std.specs.Prelude.{◌≡◌, true};
+ghost use Rattle.std.specs.Prelude.{◌≡◌, ◌≤◌, ◌+◌, true};
 ghost use Rattle.pp_model.specs.Pass.{PassView};
 ghost use Rattle.pp_model.specs.MapCalls.{MayCall};
 
@@ -21,21 +21,19 @@ pub fn answers<M: MapCalls>(
     requires may { MayCall call races (M.pass_view pass.old) }
     ensures belongs { M.Belongs map.now pass.new }
     ensures idle { M.Idle pass.new }
+    ensures caller { (M.pass_view pass.new).caller ≡ (M.pass_view pass.old).caller }
+    ensures room { (M.pass_view pass.old).room ≤ (M.pass_view pass.new).room + 1 }
 {
     answer_one(map, pass, call, races) == answer
 }
 
 /// Makes so many turns of a going call, or as many as there are up to its answer. Tells whether it goes on still.
-pub fn goes_on<M: MapCalls>(
-    map: &M,
-    pass: &mut M::Pass,
-    going: &mut M::Going,
-    count: u32,
-) -> bool
+pub fn goes_on<M: MapCalls>(map: &M, pass: &mut M::Pass, going: &mut M::Going, count: u32) -> bool
     requires belongs { M.Belongs map.now pass.old }
     requires going { (before : PassView) × M.UnderWay map.now pass.old going.old before }
     ensures belongs { M.Belongs map.now pass.new }
     ensures going { result ≡ true → (before : PassView) × M.UnderWay map.now pass.new going.new before }
+    ensures caller { (M.pass_view pass.new).caller ≡ (M.pass_view pass.old).caller }
 {
     for _ in 0..count {
         if let Turned::Done(_) = map.turn(pass, going) {
@@ -46,16 +44,12 @@ pub fn goes_on<M: MapCalls>(
 }
 
 /// Makes a turn of a going call. Tells whether it is answered so.
-pub fn ends<M: MapCalls>(
-    map: &M,
-    pass: &mut M::Pass,
-    going: &mut M::Going,
-    answer: Answer,
-) -> bool
+pub fn ends<M: MapCalls>(map: &M, pass: &mut M::Pass, going: &mut M::Going, answer: Answer) -> bool
     requires belongs { M.Belongs map.now pass.old }
     requires going { (before : PassView) × M.UnderWay map.now pass.old going.old before }
     ensures belongs { M.Belongs map.now pass.new }
     ensures idle { result ≡ true → M.Idle pass.new }
+    ensures caller { (M.pass_view pass.new).caller ≡ (M.pass_view pass.old).caller }
 {
     match map.turn(pass, going) {
         Turned::On => false,
