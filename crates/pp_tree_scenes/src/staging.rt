@@ -1,6 +1,6 @@
 //! A tree is opened, its callers' calls are made whole or by turns, their purses are emptied, and it is closed.
 
-ghost use Rattle.std.specs.Prelude.{◌≡◌, length};
+ghost use Rattle.std.specs.Prelude.{◌≡◌, ◌++◌, ◌∷◌, [], length};
 ghost use Rattle.pp_link.specs.Places.{IsWithin};
 ghost use Rattle.pp_model.specs.Lists.{AtEach};
 ghost use Rattle.pp_model.specs.MapCalls.{MayCall};
@@ -22,7 +22,7 @@ use std::process::Abort;
 pub(crate) const RACES: u64 = 100;
 
 /// A tree over so many records, and the passes of its callers.
-pub(crate) fn open(
+fn open(
     rt: &impl Abort,
     alloc: Global,
     callers: u32,
@@ -37,15 +37,9 @@ pub(crate) fn open(
     made
 }
 
-/// The last pass of the tree.
-pub(crate) fn last_pass(
-    rt: &impl Abort,
-    tree: &Tree,
-    passes: &mut Vec<Pass<TreeShape>>,
-) -> Pass<TreeShape>
-    requires ready { AreReady tree.now passes.old.items }
-    ensures ready { AreReady tree.now passes.new.items }
-    ensures last { IsReady tree.now result }
+/// Takes the last pass from a list.
+fn take_last(rt: &impl Abort, passes: &mut Vec<Pass<TreeShape>>) -> Pass<TreeShape>
+    ensures { passes.old.items ≡ passes.new.items ++ result ∷ [] }
 {
     let Some(pass) = passes.pop() else {
         panic!(rt; "no pass");
@@ -53,12 +47,17 @@ pub(crate) fn last_pass(
     pass
 }
 
+/// Takes the last pass from the list of a tree's passes.
+fn last_pass(rt: &impl Abort, tree: &Tree, passes: &mut Vec<Pass<TreeShape>>) -> Pass<TreeShape>
+    requires ready { AreReady tree.now passes.old.items }
+    ensures ready { AreReady tree.now passes.new.items }
+    ensures last { IsReady tree.now result }
+{
+    take_last(rt, passes)
+}
+
 /// A tree over so many records, and the pass of its one caller.
-pub(crate) fn open_one(
-    rt: &impl Abort,
-    alloc: Global,
-    records: u32,
-) -> (Tree, Pass<TreeShape>)
+pub(crate) fn open_one(rt: &impl Abort, alloc: Global, records: u32) -> (Tree, Pass<TreeShape>)
     requires { IsWithin (tree_sizes 1 records) }
     ensures { IsReady result.0 result.1 }
 {
@@ -242,7 +241,12 @@ pub(crate) fn end(
 }
 
 /// Makes a reclaim pass, which makes so many records free.
-pub(crate) fn reclaim_so_many(rt: &impl Abort, tree: &Tree, pass: &mut Pass<TreeShape>, count: u32)
+pub(crate) fn reclaim_so_many(
+    rt: &impl Abort,
+    tree: &Tree,
+    pass: &mut Pass<TreeShape>,
+    count: u32,
+)
     requires ready { IsReady tree.now pass.old }
     ensures ready { IsReady tree.now pass.new }
 {
