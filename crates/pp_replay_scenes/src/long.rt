@@ -31,15 +31,16 @@ fn shared(alloc: Global, lines: u32) -> Result<String, Fail> {
     Ok(text)
 }
 
-/// Each of eight callers has so many answers, one after another, and then come contents of which there are as many as are said, with
-/// keys that rise.
-fn check(rt: &HostRuntime, text: &str, calls: u32) -> Result<(), Fail> {
+/// Whether a text has so many answers of each of eight callers, one after another, and then contents of which there are as many as
+/// are said, with keys that rise.
+fn is_whole(alloc: Global, text: &str, calls: u32) -> Result<bool, Fail> {
     let mut lines = text.lines();
     for caller in 0..8u32 {
         for number in 1..=calls {
-            let start = format!(in rt.alloc(); "{caller} {number} ")?;
-            let line = lines.next().unwrap_or("");
-            assert!(rt; line.starts_with(start.as_str()), "{line}");
+            let start = format!(in alloc; "{caller} {number} ")?;
+            if !lines.next().unwrap_or("").starts_with(start.as_str()) {
+                return Ok(false);
+            }
         }
     }
     let head = lines.next().unwrap_or("");
@@ -48,12 +49,14 @@ fn check(rt: &HostRuntime, text: &str, calls: u32) -> Result<(), Fail> {
     for line in lines {
         let (key, _) = line.split_once(' ').unwrap_or(("", ""));
         let key = key.parse::<u64>()?;
-        assert!(rt; key >= least, "{line}");
+        if key < least {
+            return Ok(false);
+        }
         least = key.saturating_add(1);
         count = count.saturating_add(1);
     }
-    assert_eq!(rt; head, format!(in rt.alloc(); "contents {count}")?.as_str());
-    Ok(())
+    let said = format!(in alloc; "contents {count}")?;
+    Ok(head == said.as_str())
 }
 
 #[test]
@@ -62,7 +65,10 @@ fn eight_callers_share_their_keys(rt: HostRuntime) -> Result<(), Fail> {
     let line = "--map hash --callers 8";
     let got = replayed(&rt, rt.alloc(), line, trace.as_bytes(), &SOUND, &NoGate)?;
     assert_eq!(rt; got.status, 0);
-    check(&rt, String::from_utf8(got.sink)?.as_str(), 25_000)
+    let text = String::from_utf8(got.sink)?;
+    let is_whole = is_whole(rt.alloc(), text.as_str(), 25_000)?;
+    assert!(rt; is_whole);
+    Ok(())
 }
 
 const HASH_OUT: &[u8] =
