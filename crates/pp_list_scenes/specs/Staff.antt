@@ -1,5 +1,5 @@
 -- The passes of a scene.
-use Rattle.std.specs.Prelude.{ℕ, List}
+use Rattle.std.specs.Prelude.{List}
 use Rattle.pp_model.specs.declared.Change.{Change}
 use Rattle.pp_model.specs.declared.Placed.{Placed}
 use Rattle.pp_model.specs.Lists.{AtEach}

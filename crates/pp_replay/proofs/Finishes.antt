@@ -1,10 +1,12 @@
 -- How printing ends, and what that makes of a replay.
 use Rattle.std.proofs.Common.{◌≡◌, ℕ, suc, ◌*◌, ◌^◌, ◌<◌, ◌≤◌, List, [], ◌∷◌, length, refl, sym, ap, ◌∙◌, arith, Ok}
 use Rattle.std.specs.Prelude.{Option, Some, None, sum_by}
+use Rattle.std.proofs.lemmas.List.{length-map}
 use Rattle.std.proofs.lemmas.List.Sums.{sum_by-cons}
 use Rattle.pp_model.specs.declared.Answer.{Answer}
 use Rattle.pp_model.specs.declared.Call.{Call}
-use Rattle.pp_model.specs.Lists.{AtEach}
+use Rattle.pp_model.specs.Lists.{AtEach, upto}
+use Rattle.pp_model.proofs.PlainPasses.{length-upto}
 use Rattle.pp_model.specs.History.{contents_of}
 use Rattle.pp_model.specs.Pass.{RunView}
 use Rattle.pp_trace.specs.declared.Make.{Make}
@@ -13,6 +15,7 @@ use Rattle.pp_words.specs.declared.Settings.{Settings}
 use Rattle.pp_words.specs.Words.{settings_of}
 use Rattle.pp_devices.specs.declared.ways.Way.{Way}
 use Rattle.pp_devices.specs.declared.ways.Way.TheVariants as way
+use Rattle.pp_running.specs.Jobs.{AreCalls}
 use Rattle.pp_replay.specs.Printed.{IsPrinted, AreShort}
 use Rattle.pp_devices.specs.Devices.{Device, World, world}
 use Rattle.pp_replay.specs.Replay.{output, Cause, HasCalls, HadNoMemory, IsBuilt, IsReplay, IsRunUnder}
@@ -50,6 +53,20 @@ pub spared : (make : Option Make) (callers : ℕ) (before after : Device) (lists
 spared None callers before after lists calls = record { unfailed = calls.unfailed; unread = λ m is. absurd cc }
 spared (Some make) callers before after lists calls =
     record { unfailed = ap (λ d. d.faults) calls.unread; unread = λ m is. calls.unread }
+
+-- lists that were read or made may be run
+pub may_run : (make : Option Make) (callers : ℕ) (before after : Device) (lists : List (List Call)) → HasCalls make callers before after lists
+    → AreCalls callers lists
+may_run None callers before after lists calls = record {
+  each_caller = ap length calls.says.lists_are ∙ (length-map (upto 0 callers) _ ∙ length-upto 0 callers);
+  keys = calls.says.keys;
+  short = calls.says.short;
+}
+may_run (Some make) callers before after lists calls = record {
+  each_caller = ap length calls.makes.lists_are ∙ (length-map (upto 0 callers) _ ∙ length-upto 0 callers);
+  keys = calls.makes.keys;
+  short = calls.makes.short;
+}
 
 -- want of memory before the first write
 pub no_memory : (words : List (List ℕ)) (settings : Settings) (before after : World) → settings_of words ≡ Some settings

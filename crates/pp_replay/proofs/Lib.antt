@@ -1,9 +1,6 @@
-pub mod Lists
-pub mod Runs
-pub mod RunJobs
 pub mod PrintedTexts
 pub mod Finishes
 pub mod Unders
 pub mod PlainRuns
+pub mod TableRuns
 pub mod Completeness
-pub mod Numbers

@@ -12,18 +12,21 @@ use Rattle.pp_model.specs.declared.Call.{Call}
 use Rattle.pp_model.specs.Calls.{inserts}
 use Rattle.pp_model.specs.Lists.{AtEach}
 use Rattle.pp_model.specs.Pass.{PassView, MapSizes, Meaning, RunView}
-use Rattle.pp_model.proofs.Chains.{answers_each, never_full}
+use Rattle.pp_model.specs.MapCalls.{AnswersCalls}
+use Rattle.pp_model.proofs.Chains.{answers_each, never_full, plain_never_lost}
 use Rattle.pp_trace.specs.Text.{count_all, is_full, is_lost}
 use Rattle.pp_words.specs.declared.Settings.{Settings}
+use Rattle.pp_words.specs.declared.Kind.{Kind}
 use Rattle.pp_words.specs.declared.Kind.TheVariants as kind
 use Rattle.pp_words.specs.Words.{InRange}
-use Rattle.pp_replay.specs.Run.{IsRunOf, IsCaller}
+use Rattle.pp_running.specs.Run.{IsRunOf, IsCaller}
 use Rattle.pp_replay.specs.Replay.{IsRunUnder, meaning_of, sizes_of, share_of}
 use Rattle.pp_replay.specs.Printed.{AreShort}
+use Rattle.pp_replay.specs.Parts.{IsChosen}
 
 -- ---- no answer of a kind
 
-pub none_counted : (test : Answer → Bool) (answers : List Answer) → AtEach answers (λ k a. test a ≡ true → ⊥) → count_by test answers ≡ 0
+none_counted : (test : Answer → Bool) (answers : List Answer) → AtEach answers (λ k a. test a ≡ true → ⊥) → count_by test answers ≡ 0
 none_counted test [] each = refl
 none_counted test (a ∷ answers) each =
     let ih : count_by test answers ≡ 0 = none_counted test answers (λ k x at. each (suc k) x at) in
@@ -32,7 +35,7 @@ none_counted test (a ∷ answers) each =
     sum_by-cons (λ x. cond (test x) 1 0) a answers ∙ ap₂ (λ (x y : ℕ). x + y) one ih)
     (cases_Bool (test a))
 
-pub none_of_all : (test : Answer → Bool) (lists : List (List Answer)) → AtEach lists (λ c got. count_by test got ≡ 0) → count_all test lists ≡ 0
+none_of_all : (test : Answer → Bool) (lists : List (List Answer)) → AtEach lists (λ c got. count_by test got ≡ 0) → count_all test lists ≡ 0
 none_of_all test [] each = refl
 none_of_all test (x ∷ lists) each =
     let here : count_by test x ≡ 0 = each 0 x refl in
@@ -44,15 +47,14 @@ full_is (Said r) e = absurd cc
 full_is Full e = refl
 full_is (Lost t) e = absurd cc
 
-pub lost_is : (a : Answer) → is_lost a ≡ true → (t : ℕ) × (a ≡ Lost t)
+lost_is : (a : Answer) → is_lost a ≡ true → (t : ℕ) × (a ≡ Lost t)
 lost_is (Said r) e = absurd cc
 lost_is Full e = absurd cc
 lost_is (Lost t) e = (t, refl)
 
-module _ (settings : Settings) (meaning : Meaning) (sizes : MapSizes) (opened : List PassView) (lists : List (List Call))
-    (answers : List (List Answer)) (run : RunView)
-    (ran : IsRunOf meaning sizes settings.races opened lists answers run) where
-  pub list_for : (c : ℕ) (got : List Answer) → slice_get answers c ≡ Some got → (calls : List Call) × (slice_get lists c ≡ Some calls)
+module _ (settings : Settings) (opened : List PassView) (lists : List (List Call)) (answers : List (List Answer)) (run : RunView)
+    (ran : IsRunOf (meaning_of settings.map) (sizes_of settings) settings.races opened lists answers run) where
+  list_for : (c : ℕ) (got : List Answer) → slice_get answers c ≡ Some got → (calls : List Call) × (slice_get lists c ≡ Some calls)
   list_for c got at = (get_or lists c [], slice_get-get_or lists c [] (omega (arith, slice_get_within answers c got at, ran.answered)))
 
   nobody : PassView
@@ -70,37 +72,50 @@ module _ (settings : Settings) (meaning : Meaning) (sizes : MapSizes) (opened : 
     share = 0;
   }
 
-  pub pass_for : (c : ℕ) (got : List Answer) → slice_get answers c ≡ Some got → (p : PassView) × (slice_get opened c ≡ Some p)
+  pass_for : (c : ℕ) (got : List Answer) → slice_get answers c ≡ Some got → (p : PassView) × (slice_get opened c ≡ Some p)
   pass_for c got at = (
     get_or opened c nobody,
     slice_get-get_or opened c nobody (omega (arith, slice_get_within answers c got at, ran.answered, ran.passes_are)),
   )
 
-  pub chain : (c : ℕ) (got : List Answer) (at : slice_get answers c ≡ Some got)
-      → IsCaller meaning sizes settings.races run c (pass_for c got at).0 (list_for c got at).0 got
+  chain : (c : ℕ) (got : List Answer) (at : slice_get answers c ≡ Some got)
+      → IsCaller (meaning_of settings.map) (sizes_of settings) settings.races run c (pass_for c got at).0 (list_for c got at).0 got
   chain c got at = ran.each c (pass_for c got at).0 (list_for c got at).0 got (pass_for c got at).1 (list_for c got at).1 at
 
+  none_full : AtEach opened (λ c p. p.share ≡ share_of settings.map (sizes_of settings) c)
+      → AtEach lists (λ c calls. (meaning_of settings.map).need * inserts calls ≤ share_of settings.map (sizes_of settings) c)
+      → count_all is_full answers ≡ 0
+  none_full shares enough = none_of_all is_full answers (λ c got at.
+      let one = chain c got at in
+      let pass = pass_for c got at in
+      let list = list_for c got at in
+      let own = shares c pass.0 pass.1 in
+      let given = enough c list.0 list.1 in
+      let fits : (meaning_of settings.map).need * inserts list.0 ≤ pass.0.share = omega (arith, given, own) in
+      let never = never_full (meaning_of settings.map) (sizes_of settings) settings.races pass.0 one.closed list.0 got one.made
+      (ran.passes c pass.0 pass.1).fresh.free fits in
+      none_counted is_full got (λ k a here yes. never k a here (full_is a yes)))
+
+  -- the plain map never loses a turn
+  none_lost : settings.map ≡ kind.Plain → count_all is_lost answers ≡ 0
+  none_lost plain = none_of_all is_lost answers (λ c got at.
+      let one = chain c got at in
+      let pass = pass_for c got at in
+      let list = list_for c got at in
+      let made = subst (λ (m : Meaning). AnswersCalls m (sizes_of settings) settings.races pass.0 list.0 got one.closed)
+      (ap meaning_of plain) one.made in
+      let never = plain_never_lost (sizes_of settings) settings.races pass.0 one.closed list.0 got made in
+      none_counted is_lost got (λ k a here yes. never k a here (lost_is a yes).0 (lost_is a yes).1))
+
   -- the run is one of the map that the settings choose, with its shares
-  pub under : meaning_of settings.map ≡ meaning → sizes_of settings ≡ sizes
-      → AtEach opened (λ c p. p.share ≡ share_of settings.map sizes c) → (settings.map ≡ kind.Plain → count_all is_lost answers ≡ 0)
-      → IsRunUnder settings lists answers run
-  under meant sized shares none_lost = record {
+  pub under : AtEach opened (λ c p. p.share ≡ share_of settings.map (sizes_of settings) c) → IsRunUnder settings lists answers run
+  under shares = record {
     opened = opened;
     shares = λ c p at. shares c p at ∙ ap (λ (z : MapSizes). share_of settings.map z c) (sym ran.sizes_are);
-    ran = subst (λ (m : Meaning). IsRunOf m (sizes_of settings) settings.races opened lists answers run) (sym meant)
-        (subst (λ (z : MapSizes). IsRunOf meaning z settings.races opened lists answers run) (sym sized) ran);
-    none_full = λ enough. none_of_all is_full answers (λ c got at.
-        let one = chain c got at in
-        let pass = pass_for c got at in
-        let list = list_for c got at in
-        let own : pass.0.share ≡ share_of settings.map run.sizes c =
-        shares c pass.0 pass.1 ∙ ap (λ (z : MapSizes). share_of settings.map z c) (sym ran.sizes_are) in
-        let need : (meaning_of settings.map).need * inserts list.0 ≡ meaning.need * inserts list.0 =
-        ap (λ (m : Meaning). m.need * inserts list.0) meant in
-        let given = enough c list.0 list.1 in
-        let fits : meaning.need * inserts list.0 ≤ pass.0.share = omega (arith, given, need, own) in
-        let never = never_full meaning sizes settings.races pass.0 one.closed list.0 got one.made (ran.passes c pass.0 pass.1).fresh.free fits in
-        none_counted is_full got (λ k a here yes. never k a here (full_is a yes)));
+    ran = ran;
+    none_full = λ enough. none_full shares (subst
+        (λ (z : MapSizes). AtEach lists (λ c calls. (meaning_of settings.map).need * inserts calls ≤ share_of settings.map z c))
+        ran.sizes_are enough);
     none_lost = none_lost;
   }
 
@@ -112,6 +127,25 @@ module _ (settings : Settings) (meaning : Meaning) (sizes : MapSizes) (opened : 
         omega (
           arith,
           each c (list_for c got at).0 (list_for c got at).1,
-          answers_each meaning sizes settings.races (pass_for c got at).0 one.closed (list_for c got at).0 got one.made,
+          answers_each (meaning_of settings.map) (sizes_of settings) settings.races (pass_for c got at).0 one.closed
+              (list_for c got at).0 got one.made,
         );
   }
+
+-- a map has no more pairs than live records
+few_pairs : (k : Kind) (n : ℕ) → n ≤ (meaning_of k).live n
+few_pairs kind.Plain n = omega arith
+few_pairs kind.List n = omega arith
+few_pairs kind.Hash n = omega arith
+few_pairs kind.Tree n = omega arith
+
+-- a map with the meaning and the sizes of the one that the settings choose is that one
+pub chosen : (settings : Settings) (meaning : Meaning) (sizes : MapSizes) → meaning ≡ meaning_of settings.map → sizes ≡ sizes_of settings
+    → IsChosen meaning sizes settings
+chosen settings meaning sizes meant sized = record {
+  sizes_are = sized;
+  runs = λ opened lists answers run ran.
+      subst (λ (m : Meaning). IsRunOf m (sizes_of settings) settings.races opened lists answers run) meant
+      (subst (λ (z : MapSizes). IsRunOf meaning z settings.races opened lists answers run) sized ran);
+  live = λ n. subst (λ (m : Meaning). n ≤ m.live n) (sym meant) (few_pairs settings.map n);
+}

@@ -1,5 +1,3 @@
-pub mod Run
-pub mod Jobs
 pub mod Printed
 pub mod Replay
 pub mod Parts

@@ -1,15 +1,34 @@
 -- What the parts of a replay come to.
-use Rattle.std.specs.Prelude.{◌≡◌, ℕ, ◌+◌, ◌<◌, List, Option, Some, None, ⊤}
+use Rattle.std.specs.Prelude.{◌≡◌, ◌⊎◌, ℕ, ◌+◌, ◌<◌, ◌≤◌, List, Option, Some, None, ⊤}
 use Rattle.std.specs.Io.KnownBytes.{Appends}
 use Rattle.pp_outside.specs.Outside.{Rose, GrewByPrefix}
 use Rattle.pp_model.specs.declared.Answer.{Answer}
+use Rattle.pp_model.specs.declared.Call.{Call}
+use Rattle.pp_model.specs.Pass.{PassView, MapSizes, Meaning, RunView}
 use Rattle.pp_trace.specs.declared.Make.{Make}
 use Rattle.pp_trace.specs.Grammar.{bad}
 use Rattle.pp_trace.specs.Text.{count_all, is_full, is_lost}
 use Rattle.pp_devices.specs.declared.ways.Way.{Way}
 use Rattle.pp_devices.specs.declared.ways.Way.TheVariants as way
 use Rattle.pp_devices.specs.Devices.{Device, WasUnread, WasTooLong}
-use Rattle.pp_replay.specs.Replay.{HasBadLine}
+use Rattle.pp_words.specs.declared.Settings.{Settings}
+use Rattle.pp_words.specs.declared.Kind.TheVariants as kind
+use Rattle.pp_running.specs.Run.{IsRunOf}
+use Rattle.pp_replay.specs.Replay.{HasBadLine, meaning_of, sizes_of}
+
+-- the settings choose a table of so many buckets: a list is one bucket
+abbrev pub IsTable : Settings → ℕ → Type 0
+IsTable settings buckets =
+    ((settings.map ≡ kind.List) × (buckets ≡ 1)) ⊎ ((settings.map ≡ kind.Hash) × (buckets ≡ settings.buckets))
+
+-- A map of this meaning and these sizes is the one that the settings choose: its runs are runs of that one. It has no more pairs than
+-- live records.
+pub record IsChosen (meaning : Meaning) (sizes : MapSizes) (settings : Settings) : Type 0 where
+  pub sizes_are : sizes ≡ sizes_of settings
+  pub runs : (opened : List PassView) → (lists : List (List Call)) → (answers : List (List Answer)) → (run : RunView)
+      → IsRunOf meaning sizes settings.races opened lists answers run
+      → IsRunOf (meaning_of settings.map) (sizes_of settings) settings.races opened lists answers run
+  pub live : (n : ℕ) → n ≤ meaning.live n
 
 -- no read failed, and with a made trace nothing was read
 pub record WasSpared (make : Option Make) (before after : Device) : Type 0 where

@@ -14,6 +14,7 @@ use Rattle.pp_model.specs.Lists.{AtEach}
 use Rattle.pp_model.specs.History.{contents_of}
 use Rattle.pp_model.specs.Pass.{PassView, MapSizes, Meaning, RunView}
 use Rattle.pp_model.specs.Plain.{plain_meaning}
+use Rattle.pp_list.specs.Meant.{list_meaning}
 use Rattle.pp_trace.specs.declared.Make.{Make}
 use Rattle.pp_trace.specs.declared.Why.{Why}
 use Rattle.pp_trace.specs.Grammar.{bad}
@@ -25,7 +26,7 @@ use Rattle.pp_words.specs.declared.Kind.{Kind}
 use Rattle.pp_words.specs.declared.Kind.TheVariants as kind
 use Rattle.pp_words.specs.Words.{settings_of}
 use Rattle.pp_model.specs.Calls.{inserts}
-use Rattle.pp_replay.specs.Run.{IsRunOf}
+use Rattle.pp_running.specs.Run.{IsRunOf}
 
 -- what contracts see of an ending: its status, the callers' answers, and the run that was closed
 pub record EndingView : Type 0 where
@@ -38,15 +39,15 @@ pub record EndingView : Type 0 where
 -- the maps that are built
 abbrev pub IsBuilt : Kind → Type 0
 IsBuilt kind.Plain = Unit {0}
-IsBuilt kind.List = ⊥
-IsBuilt kind.Hash = ⊥
+IsBuilt kind.List = Unit {0}
+IsBuilt kind.Hash = Unit {0}
 IsBuilt kind.Tree = ⊥
 
 -- what the calls of a map mean by lost turns, causes and live records
 abbrev pub meaning_of : Kind → Meaning
 meaning_of kind.Plain = plain_meaning
-meaning_of kind.List = plain_meaning
-meaning_of kind.Hash = plain_meaning
+meaning_of kind.List = list_meaning
+meaning_of kind.Hash = list_meaning
 meaning_of kind.Tree = plain_meaning
 
 abbrev pub heads_of : Settings → Kind → ℕ

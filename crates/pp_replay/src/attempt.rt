@@ -1,22 +1,24 @@
 //! A replay up to its last write: words, calls, the run and its text.
 
-ghost use Rattle.std.specs.Prelude.{◌≡◌, ℕ, ◌≤◌, List, map, [], length, Some, string_bytes};
-ghost use Rattle.pp_model.specs.declared.Call.{Call};
+ghost use Rattle.std.specs.Prelude.{◌≡◌, ℕ, List, map, [], Some, string_bytes};
 ghost use Rattle.pp_words.specs.declared.Kind.TheVariants as Kind;
 ghost use Rattle.pp_words.specs.Words.{settings_of, InRange};
 ghost use Rattle.pp_replay.specs.declared.ending.Kept.TheVariants as Kept;
-ghost use Rattle.pp_replay.specs.Jobs.{AreCalls};
-ghost use Rattle.pp_replay.specs.View.{kept_run};
+ghost use Rattle.pp_running.specs.Jobs.{AreCalls};
+ghost use Rattle.pp_replay.specs.View.{kept_run, plain_kept_run, pool_kept_run, shown_run};
 ghost use Rattle.pp_devices.specs.Devices.{Device, device, world};
-ghost use Rattle.pp_replay.specs.Replay.{Cause, HasCalls};
+ghost use Rattle.pp_replay.specs.Parts.{IsTable};
+ghost use Rattle.pp_replay.specs.Replay.{Cause, HasCalls, IsBuilt};
 
 use crate::Kept;
 use crate::calls::take_calls;
-use crate::printing::finish;
-use crate::running::run_on;
+use crate::showing::run_shown;
+use pp_buckets::Buckets;
 use pp_devices::Way;
-use pp_model::{Answer, Call, PlainMap};
+use pp_model::{Answer, Call, Closed, PlainKept, PlainMap};
 use pp_outside::{Gate, Sink, Source};
+use pp_pool::closing::Witness;
+use pp_walk::ListShape;
 use pp_words::words::settings;
 use pp_words::{Kind, Settings, WordsFault};
 use std::alloc::Global;
@@ -76,11 +78,56 @@ fn attempt_under<R: Threads + Sync, S: Source, K: Sink, G: Gate + Sync>(
         (map (λ v. v.items) result.answers.items) (kept_run result.kept) }
 {
     match settings.map {
-        Kind::Plain => match take_calls(alloc, settings.make, settings.callers, source) {
-            Ok(lists) => run_plain(rt, alloc, settings, lists, sink, gate),
-            Err(way) => without_run(alloc, way),
-        },
-        Kind::List | Kind::Hash | Kind::Tree => without_run(alloc, Way::NotBuilt),
+        Kind::Plain | Kind::List | Kind::Hash => {
+            attempt_built(rt, alloc, settings, source, sink, gate)
+        }
+        Kind::Tree => without_run(alloc, Way::NotBuilt),
+    }
+}
+
+fn attempt_built<R: Threads + Sync, S: Source, K: Sink, G: Gate + Sync>(
+    rt: &R,
+    alloc: Global,
+    settings: Settings,
+    source: &mut S,
+    sink: &mut K,
+    gate: &G,
+) -> Attempt
+    requires within { InRange settings }
+    requires built { IsBuilt settings.map }
+    ensures { (words : List (List ℕ)) → settings_of words ≡ Some settings → Cause result.way words
+        (world (device (S.left source.old) (S.faults source.old)) (device (K.written sink.old) (K.faults sink.old)))
+        (world (device (S.left source.new) (S.faults source.new)) (device (K.written sink.new) (K.faults sink.new)))
+        (map (λ v. v.items) result.answers.items) (kept_run result.kept) }
+{
+    match take_calls(alloc, settings.make, settings.callers, source) {
+        Ok(lists) => run_chosen(rt, alloc, settings, lists, sink, gate),
+        Err(way) => without_run(alloc, way),
+    }
+}
+
+/// Runs the map that the settings choose.
+fn run_chosen<R: Threads + Sync, K: Sink, G: Gate + Sync>(
+    rt: &R,
+    alloc: Global,
+    settings: Settings,
+    lists: Vec<Vec<Call>>,
+    sink: &mut K,
+    gate: &G,
+) -> Attempt
+    requires within { InRange settings }
+    requires built { IsBuilt settings.map }
+    requires calls { AreCalls settings.callers (map (λ v. v.items) lists.items) }
+    ensures { (words : List (List ℕ)) → (before : Device) → (after : Device) → settings_of words ≡ Some settings
+        → HasCalls settings.make settings.callers before after (map (λ v. v.items) lists.items) → Cause result.way words
+        (world before (device (K.written sink.old) (K.faults sink.old))) (world after (device (K.written sink.new) (K.faults sink.new)))
+        (map (λ v. v.items) result.answers.items) (kept_run result.kept) }
+{
+    match settings.map {
+        Kind::Plain => run_plain(rt, alloc, settings, lists, sink, gate),
+        Kind::List => run_table(rt, alloc, settings, 1, lists, sink, gate),
+        Kind::Hash => run_table(rt, alloc, settings, settings.buckets, lists, sink, gate),
+        Kind::Tree => without_run(alloc, Way::NotBuilt),
     }
 }
 
@@ -107,19 +154,58 @@ fn run_plain<R: Threads + Sync, K: Sink, G: Gate + Sync>(
     let Ok(passes) = Vec::from_array(alloc, [pass]) else {
         return without_run(alloc, Way::NoMemory);
     };
-    let Ok(ran) = run_on(rt, alloc, chosen, passes, lists, settings.races, gate) else {
+    let shown = run_shown(rt, alloc, chosen, passes, settings, lists, sink, gate);
+    Attempt {
+        way: shown.way,
+        kept: kept_plain(shown.closed),
+        answers: shown.answers,
+    }
+}
+
+fn kept_plain(closed: Option<Closed<PlainKept>>) -> Kept
+    ensures { kept_run result ≡ shown_run plain_kept_run closed }
+{
+    match closed {
+        Some(closed) => Kept::Plain(closed),
+        None => Kept::Nothing,
+    }
+}
+
+/// Runs a list or a hash table: a table of so many buckets.
+fn run_table<R: Threads + Sync, K: Sink, G: Gate + Sync>(
+    rt: &R,
+    alloc: Global,
+    settings: Settings,
+    buckets: u32,
+    lists: Vec<Vec<Call>>,
+    sink: &mut K,
+    gate: &G,
+) -> Attempt
+    requires within { InRange settings }
+    requires table { IsTable settings buckets }
+    requires calls { AreCalls settings.callers (map (λ v. v.items) lists.items) }
+    ensures { (words : List (List ℕ)) → (before : Device) → (after : Device) → settings_of words ≡ Some settings
+        → HasCalls settings.make settings.callers before after (map (λ v. v.items) lists.items) → Cause result.way words
+        (world before (device (K.written sink.old) (K.faults sink.old))) (world after (device (K.written sink.new) (K.faults sink.new)))
+        (map (λ v. v.items) result.answers.items) (kept_run result.kept) }
+{
+    let Ok((chosen, passes)) = Buckets::start(alloc, settings.callers, settings.records, buckets)
+    else {
         return without_run(alloc, Way::NoMemory);
     };
-    let way = finish(
-        alloc,
-        sink,
-        settings.make,
-        &ran.answers,
-        ran.closed.contents(),
-    );
+    let shown = run_shown(rt, alloc, chosen, passes, settings, lists, sink, gate);
     Attempt {
-        way,
-        kept: Kept::Plain(ran.closed),
-        answers: ran.answers,
+        way: shown.way,
+        kept: kept_table(shown.closed),
+        answers: shown.answers,
+    }
+}
+
+fn kept_table(closed: Option<Closed<Witness<ListShape>>>) -> Kept
+    ensures { kept_run result ≡ shown_run pool_kept_run closed }
+{
+    match closed {
+        Some(closed) => Kept::Table(closed),
+        None => Kept::Nothing,
     }
 }

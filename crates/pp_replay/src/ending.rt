@@ -5,6 +5,8 @@ ghost use Rattle.pp_devices.specs.Ways.{status_of};
 
 use crate::attempt::Attempt;
 use pp_model::{Answer, Closed, PlainKept};
+use pp_pool::closing::Witness;
+use pp_walk::ListShape;
 use std::marker::Model;
 
 /// The closed map of a run, of whichever kind.
@@ -14,6 +16,8 @@ pub enum Kept {
     Nothing,
     /// A plain map's.
     Plain(Closed<PlainKept>),
+    /// A list's or a hash table's: the run of its pool.
+    Table(Closed<Witness<ListShape>>),
 }
 
 /// The ending of a replay. Contracts see its status, the callers' answers, and the run of the map that was closed.

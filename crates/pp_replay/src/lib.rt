@@ -9,9 +9,8 @@ ghost use Rattle.pp_replay.specs.Replay.{IsEnding, IsGood, IsAnswered};
 mod attempt;
 mod calls;
 mod ending;
-mod jobs;
 mod printing;
-mod running;
+mod showing;
 
 pub use ending::{Ending, Kept};
 use pp_devices::tell;
@@ -47,6 +46,3 @@ pub fn replay<R: Threads + Sync, S: Source, K: Sink, E: Sink, G: Gate + Sync>(
     tell(errs, attempt.way);
     Ending::of(attempt)
 }
-
-#[cfg(test)]
-mod tests;

@@ -9,5 +9,7 @@ pub returns : goal.returns
 returns c = let old = c.args.pass.now in let new = c.flush.new.pass in let e = c.flush.ensures in let ready = c.requires.ready in
     let i = ready.resting.idle in let z = c.pool.result.now.layout in
     let made = flushed_purse 1 z (length (known old.seat).chains) (view old.seat) (view new.seat) e.flushed in
-    record { ready = still_ready c.args.table.now z old new made.0 made.1 e.same (has_own 0 _ _ new.seat new.keeping.lone new.run)
-    (e.walk ∙ i.0, e.purse.going ∙ i.1, e.purse.taken ∙ i.2) e.rest ready }
+    record {
+      ready = still_ready c.args.table.now z old new made.0 made.1 e.same (has_own 0 _ _ new.seat new.keeping.lone new.run)
+          (e.walk ∙ i.0, e.purse.going ∙ i.1, e.purse.taken ∙ i.2) e.rest ready;
+    }

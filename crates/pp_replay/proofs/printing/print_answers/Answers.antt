@@ -1,7 +1,7 @@
 use Rattle.std.proofs.Common.{arith, ◌+◌, length, refl, ap, ◌∙◌, Ok, Err}
 use Rattle.std.proofs.lemmas.List.{length-map}
 use Rattle.std.proofs.lemmas.Result.{err_from_is_err_and}
-use Rattle.pp_replay.proofs.Lists.{at_mapped}
+use Rattle.pp_running.proofs.Lists.{at_mapped}
 use Rattle.std.proofs.lemmas.Option.{slice_get_read}
 use Rattle.pp_trace.proofs.Buffered.{Puts-none}
 use Rattle.pp_replay.proofs.PrintedTexts.{Puts-more, Puts-short, callers_more, callers_whole}
