@@ -1,28 +1,19 @@
 -- A call is under way still where its pass learnt of more steps of others.
-use Rattle.std.proofs.Common.{◌≡◌, ◌⊎◌, ℕ, zero, suc, ◌+◌, ◌<◌, ◌≤◌, min, Bool, true, false, List, [], ◌∷◌, length, map, drop, Option, Some, None, refl, sym, ap, ◌∙◌, subst, arith, ◌++◌, length-append}
-use Rattle.std.proofs.lemmas.List.{nil_from_length}
+use Rattle.std.proofs.Common.{◌≡◌, ◌⊎◌, ℕ, zero, suc, ◌+◌, ◌<◌, ◌≤◌, min, Bool, true, false, List, [], ◌∷◌, length, map, drop, Option, Some, None, refl, sym, ap, ◌∙◌, subst, arith}
 use Rattle.pp_link.specs.declared.layout.Sizes.{Sizes}
 use Rattle.pp_pool.specs.declared.fresh.Fresh.{Fresh}
 use Rattle.pp_model.specs.declared.Call.{Call}
-use Rattle.pp_model.specs.declared.Placed.{Placed}
 use Rattle.pp_model.specs.declared.steps.Step.{Step}
 use Rattle.pp_model.specs.declared.Reply.TheVariants.{Took}
 use Rattle.pp_model.specs.Calls.{key_of, Takes}
 use Rattle.pp_model.specs.MapCalls.{LeftAlone}
 use Rattle.pp_rule.specs.Lists.{BeginsWith}
 use Rattle.pp_rule.specs.Orders.{log_of, made_by, placed_by}
-use Rattle.pp_rule.proofs.Histories.{log_begins, log_append, made_append}
-use Rattle.pp_rule.proofs.Put.{in_right}
-use Rattle.pp_rule.specs.declared.views.LoggedStep.{LoggedStep}
-use Rattle.pp_rule.specs.Lists.{IsIn}
-use Rattle.pp_model.specs.declared.Change.{Change}
-use Rattle.pp_model.specs.History.{Stands as StandsLog}
-use Rattle.pp_model.proofs.Histories.{stands_grown}
-use Rattle.pp_calls.proofs.Remaining.{others_changed}
+use Rattle.pp_rule.proofs.Histories.{log_begins}
 use Rattle.pp_base.specs.declared.purse.Purse.{Purse}
 use Rattle.pp_base.specs.Passes.{IsAtRest}
 use Rattle.pp_calls.specs.PoolViews.{pool_view, link_writes}
-use Rattle.pp_calls.specs.Steps.{Went, HasOwn, StandsThen}
+use Rattle.pp_calls.specs.Steps.{Went}
 use Rattle.pp_shelf.specs.Runs.{map_sizes, steps_made}
 use Rattle.pp_lists.specs.Lists.{ListPass}
 use Rattle.pp_lists.specs.Turns.{ListView}
@@ -144,21 +135,3 @@ module _ (z : Sizes) (share : ℕ) (from v w : ListView) (same : w.known ≡ v.k
     where
       wrote : link_writes w.known.sizes (made_by w.known.number w.order) ≡ link_writes v.known.sizes (made_by v.known.number v.order)
       wrote = ap (λ (q : ListPass). link_writes q.sizes (made_by q.number w.order)) same ∙ ap (link_writes v.known.sizes) made
-
--- The placed calls of a pass stand in what it has seen then.
-pub calls_learnt : (v w : ListView) → w.known ≡ v.known → BeginsWith w.order v.order
-    → made_by v.known.number w.order ≡ made_by v.known.number v.order
-    → placed_by v.known.number w.order ≡ placed_by v.known.number v.order → HasOwn w.order → StandsThen v → StandsThen w
-calls_learnt v w same order made placed own stands =
-    let p : ℕ = v.known.number in let rest : List (LoggedStep Change Placed) = order.0 in
-    let all = ap (λ o. length (made_by p o)) order.1 ∙ (ap (λ l. length l) (made_append p v.order rest)
-    ∙ length-append (made_by p v.order) (made_by p rest)) in
-    let kept = ap (λ l. length l) made in
-    let none : made_by p rest ≡ [] = nil_from_length (made_by p rest) (omega arith) in
-    let owned : HasOwn rest = λ s i. own s (subst (λ (o : List (LoggedStep Change Placed)). IsIn s o) (sym order.1) (in_right s v.order rest i)) in
-    let log : log_of w.order ≡ log_of v.order ++ log_of rest = ap log_of order.1 ∙ log_append v.order rest in
-    let grown : StandsLog (log_of v.order ++ log_of rest) p (placed_by p v.order) =
-    stands_grown (log_of v.order) (log_of rest) p (placed_by p v.order) (others_changed p rest none owned) stands in
-    subst (λ (q : ListPass). StandsLog (log_of w.order) q.number (placed_by q.number w.order)) (sym same)
-    (subst (λ (l : List Change). StandsLog l p (placed_by p w.order)) (sym log)
-    (subst (λ (l : List Placed). StandsLog (log_of v.order ++ log_of rest) p l) (sym placed) grown))

@@ -1,5 +1,3 @@
-pub mod Telling
-pub mod Starting
 pub mod Beginning
 pub mod Learning
 pub mod Turning

@@ -1,5 +1,5 @@
 -- What a closed pool shows is what a closed map has to show.
-use Rattle.std.proofs.Common.{◌≡◌, ℕ, zero, suc, ◌+◌, ◌<◌, ◌≤◌, Bool, true, false, cond, eqb, List, [], ◌∷◌, ◌++◌, map, length}
+use Rattle.std.proofs.Common.{◌≡◌, ℕ, zero, suc, ◌+◌, ◌<◌, ◌≤◌, Bool, true, false, cond, eqb, List, [], ◌∷◌, map, length}
 use Rattle.std.proofs.Common.{refl, sym, ap, ◌∙◌, subst, ⊎_elim, Some, arith}
 use Rattle.std.specs.Prelude.{slice_get}
 use Rattle.std.proofs.lemmas.List.{length-map}
@@ -15,7 +15,7 @@ use Rattle.pp_model.specs.declared.steps.OrderEntry.{OrderEntry}
 use Rattle.pp_model.specs.History.{Stands}
 use Rattle.pp_model.specs.Lists.{AtEach, IsPrefix, RisesFrom, times as count_of}
 use Rattle.pp_model.specs.MapCalls.{IsClosing, IsOrdered, AreNumbers, SawAll, caller_run}
-use Rattle.pp_model.specs.Pass.{PassView, CallerRun, IsExecution, replayed, changes_of, steps_of}
+use Rattle.pp_model.specs.Pass.{PassView, CallerRun, IsExecution, changes_of, steps_of}
 use Rattle.pp_rule.specs.declared.shape.Shape.{Ghosts}
 use Rattle.pp_rule.specs.declared.views.LoggedStep.{LoggedStep}
 use Rattle.pp_rule.specs.declared.views.PassState.{PassState}
@@ -29,7 +29,7 @@ use Rattle.pp_rule.proofs.Put.{in_nil, in_first, in_later, in_cases, in_either}
 use Rattle.pp_base.specs.declared.pool.Pass.{Pass}
 use Rattle.pp_base.specs.Passes.{known, view}
 use Rattle.pp_pool.specs.Closed.{IsSeatOf, IsClosedPool}
-use Rattle.pp_calls.specs.PoolViews.{pass_view, pool_view}
+use Rattle.pp_calls.specs.PoolViews.{pass_view}
 use Rattle.pp_ends.specs.Ends.{map_sizes, TellsMap, caller_in, pool_run}
 
 module _ {A : Type 0} where

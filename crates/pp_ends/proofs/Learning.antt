@@ -1,19 +1,24 @@
 -- What a pass of a pool notes and learns is what a pass of a map does.
-use Rattle.std.proofs.Common.{◌≡◌, ℕ, ◌+◌, ◌-◌, ◌^◌, ◌≤◌, List, ◌++◌, length, refl, sym, ap, ◌∙◌, subst, length-append, arith}
+use Rattle.std.proofs.Common.{◌≡◌, ℕ, ◌-◌, ◌^◌, ◌≤◌, List, [], ◌++◌, length, refl, sym, ap, ◌∙◌, subst, length-append, arith}
+use Rattle.std.proofs.lemmas.List.{nil_from_length}
 use Rattle.atomic_table.specs.declared.shared.Seat.{Seat}
 use Rattle.pp_model.specs.declared.Change.{Change}
 use Rattle.pp_model.specs.declared.Placed.{Placed}
-use Rattle.pp_model.specs.declared.steps.OrderEntry.{OrderEntry}
+use Rattle.pp_model.specs.History.{Stands as StandsLog}
 use Rattle.pp_model.specs.MapCalls.{Notes, Learns, seeing}
 use Rattle.pp_model.specs.Pass.{PassView}
-use Rattle.pp_rule.specs.Lists.{BeginsWith}
+use Rattle.pp_model.proofs.Histories.{stands_grown}
+use Rattle.pp_rule.specs.Lists.{BeginsWith, IsIn}
 use Rattle.pp_rule.specs.Orders.{entries_of, log_of, made_by, placed_by}
 use Rattle.pp_rule.specs.declared.views.LoggedStep.{LoggedStep}
 use Rattle.pp_rule.specs.declared.views.PassState.{PassState}
 use Rattle.pp_rule.specs.declared.views.SeatView.{SeatView}
-use Rattle.pp_rule.proofs.Histories.{entries_append}
+use Rattle.pp_rule.proofs.Histories.{entries_append, log_append, made_append}
+use Rattle.pp_rule.proofs.Put.{in_right}
 use Rattle.pp_base.specs.Passes.{known, view}
 use Rattle.pp_calls.specs.PoolViews.{pool_view, link_writes}
+use Rattle.pp_calls.specs.Steps.{HasOwn, StandsThen}
+use Rattle.pp_calls.proofs.Remaining.{others_changed}
 use Rattle.pp_pool.specs.Noted.{HasLearnt}
 use Rattle.pp_ends.specs.Ends.{note_in}
 
@@ -68,3 +73,21 @@ module _ {W : Type 0} where
         (entries_begin (view s').order (view note).order h.noted_order);
     own_steps = refl;
   }
+
+  -- The placed calls of a pass stand in what it has seen then.
+  pub calls_learnt : (v w : SeatView Change Placed W) → w.known ≡ v.known → BeginsWith w.order v.order
+      → made_by v.known.number w.order ≡ made_by v.known.number v.order
+      → placed_by v.known.number w.order ≡ placed_by v.known.number v.order → HasOwn w.order → StandsThen v → StandsThen w
+  calls_learnt v w same order made placed own stands =
+      let p : ℕ = v.known.number in let rest : List (LoggedStep Change Placed) = order.0 in
+      let all = ap (λ o. length (made_by p o)) order.1 ∙ (ap (λ l. length l) (made_append p v.order rest)
+      ∙ length-append (made_by p v.order) (made_by p rest)) in
+      let kept = ap (λ l. length l) made in
+      let none : made_by p rest ≡ [] = nil_from_length (made_by p rest) (omega arith) in
+      let owned : HasOwn rest = λ s i. own s (subst (λ (o : List (LoggedStep Change Placed)). IsIn s o) (sym order.1) (in_right s v.order rest i)) in
+      let log : log_of w.order ≡ log_of v.order ++ log_of rest = ap log_of order.1 ∙ log_append v.order rest in
+      let grown : StandsLog (log_of v.order ++ log_of rest) p (placed_by p v.order) =
+      stands_grown (log_of v.order) (log_of rest) p (placed_by p v.order) (others_changed p rest none owned) stands in
+      subst (λ (q : PassState W). StandsLog (log_of w.order) q.number (placed_by q.number w.order)) (sym same)
+      (subst (λ (l : List Change). StandsLog l p (placed_by p w.order)) (sym log)
+      (subst (λ (l : List Placed). StandsLog (log_of v.order ++ log_of rest) p l) (sym placed) grown))

@@ -1,3 +1,4 @@
 pub mod Closing
 pub mod Opening
 pub mod Learning
+pub mod Telling

@@ -1,7 +1,6 @@
-//! Worked scenes over maps: their calls turn by turn, and what no single clause says, run once each.
+//! Parts of worked scenes over any map: its calls made whole and turn by turn, for tests to stage with.
 #![tactic(auto)]
 
 #[cfg(test)]
 mod plain;
-#[cfg(test)]
-mod staging;
+pub mod staging;

@@ -1,108 +1,58 @@
-//! Parts of a scene over any map: calls made whole or turn by turn, notes, and the closing.
+//! Parts of a scene over any map: a call made whole, or turn by turn. Each tells whether it went as the scene says, for a test to
+//! claim.
 
-ghost use Rattle.std.specs.Prelude.{◌≡◌, ◌≤◌, ◌+◌, length};
-ghost use Rattle.pp_model.specs.Lists.{AtEach};
+ghost use Rattle.std.specs.Prelude.{◌≡◌, ◌≤◌, ◌+◌, true};
 ghost use Rattle.pp_model.specs.Pass.{PassView};
 ghost use Rattle.pp_model.specs.MapCalls.{MayCall};
 
 use pp_model::calling::answer_one;
-use pp_model::{Answer, Call, Closed, MapCalls, Turned};
-use std::alloc::Global;
-use std::process::Abort;
+use pp_model::{Answer, Call, MapCalls, Turned};
 
-/// So many lost turns a call may have, where a scene says no other number.
-pub(crate) const RACES: u64 = 100;
-
-/// Makes a call, which is answered so.
-pub(crate) fn make<M: MapCalls>(
-    rt: &impl Abort,
+/// Makes a call, of which so many turns may be lost. Tells whether it is answered so.
+pub fn answers<M: MapCalls>(
     map: &M,
     pass: &mut M::Pass,
     call: Call,
+    races: u64,
     answer: Answer,
-)
+) -> bool
     requires belongs { M.Belongs map.now pass.old }
     requires idle { M.Idle pass.old }
-    requires may { MayCall call 100 (M.pass_view pass.old) }
+    requires may { MayCall call races (M.pass_view pass.old) }
     ensures belongs { M.Belongs map.now pass.new }
     ensures idle { M.Idle pass.new }
     ensures caller { (M.pass_view pass.new).caller ≡ (M.pass_view pass.old).caller }
     ensures room { (M.pass_view pass.old).room ≤ (M.pass_view pass.new).room + 1 }
 {
-    assert_eq!(rt; answer_one(map, pass, call, RACES), answer);
+    answer_one(map, pass, call, races) == answer
 }
 
-/// Makes so many turns of a going call, none of which ends it.
-pub(crate) fn go_on<M: MapCalls>(
-    rt: &impl Abort,
-    map: &M,
-    pass: &mut M::Pass,
-    going: &mut M::Going,
-    count: u32,
-)
+/// Makes so many turns of a going call, or as many as there are up to its answer. Tells whether it goes on still.
+pub fn goes_on<M: MapCalls>(map: &M, pass: &mut M::Pass, going: &mut M::Going, count: u32) -> bool
     requires belongs { M.Belongs map.now pass.old }
     requires going { (before : PassView) × M.UnderWay map.now pass.old going.old before }
     ensures belongs { M.Belongs map.now pass.new }
-    ensures going { (before : PassView) × M.UnderWay map.now pass.new going.new before }
+    ensures going { result ≡ true → (before : PassView) × M.UnderWay map.now pass.new going.new before }
     ensures caller { (M.pass_view pass.new).caller ≡ (M.pass_view pass.old).caller }
 {
     for _ in 0..count {
-        go_once(rt, map, pass, going);
+        if let Turned::Done(_) = map.turn(pass, going) {
+            return false;
+        }
     }
+    true
 }
 
-/// Makes a turn of a going call, which goes on.
-fn go_once<M: MapCalls>(rt: &impl Abort, map: &M, pass: &mut M::Pass, going: &mut M::Going)
+/// Makes a turn of a going call. Tells whether it is answered so.
+pub fn ends<M: MapCalls>(map: &M, pass: &mut M::Pass, going: &mut M::Going, answer: Answer) -> bool
     requires belongs { M.Belongs map.now pass.old }
     requires going { (before : PassView) × M.UnderWay map.now pass.old going.old before }
     ensures belongs { M.Belongs map.now pass.new }
-    ensures going { (before : PassView) × M.UnderWay map.now pass.new going.new before }
+    ensures idle { result ≡ true → M.Idle pass.new }
     ensures caller { (M.pass_view pass.new).caller ≡ (M.pass_view pass.old).caller }
 {
     match map.turn(pass, going) {
-        Turned::On => {}
-        Turned::Done(answer) => panic!(rt; "{answer:?}"),
-    }
-}
-
-/// Makes the last turn of a going call, which is answered so.
-pub(crate) fn end<M: MapCalls>(
-    rt: &impl Abort,
-    map: &M,
-    pass: &mut M::Pass,
-    mut going: M::Going,
-    answer: Answer,
-)
-    requires belongs { M.Belongs map.now pass.old }
-    requires going { (before : PassView) × M.UnderWay map.now pass.old going before }
-    ensures belongs { M.Belongs map.now pass.new }
-    ensures idle { M.Idle pass.new }
-    ensures caller { (M.pass_view pass.new).caller ≡ (M.pass_view pass.old).caller }
-{
-    match map.turn(pass, &mut going) {
-        Turned::On => panic!(rt; "it goes on"),
-        Turned::Done(got) => {
-            map.finish(going);
-            assert_eq!(rt; got, answer);
-        }
-    }
-}
-
-/// Closes a map over its passes.
-pub(crate) fn close<M: MapCalls>(
-    rt: &impl Abort,
-    alloc: Global,
-    map: M,
-    passes: Vec<M::Pass>,
-) -> Closed<M::Witness>
-where
-    M: Drop,
-    M::Pass: Drop,
-    requires all { length passes.items ≡ (M.sizes map).passes }
-    requires each { AtEach passes.items (λ k p. M.Belongs map p × M.Idle p × ((M.pass_view p).caller ≡ k)) }
-{
-    match map.close(alloc, passes) {
-        Ok(closed) => closed,
-        Err(_fault) => panic!(rt; "no memory"),
+        Turned::On => false,
+        Turned::Done(got) => got == answer,
     }
 }

@@ -66,7 +66,12 @@ pub fn parts_of<P: Drop>(
     Ok((passes, answers))
 }
 
-fn append<T: Drop>(list: &mut Vec<T>, item: T) -> Result<(), NoMemory>
+/// Appends an item.
+///
+/// # Errors
+///
+/// There was no memory.
+pub fn append<T: Drop>(list: &mut Vec<T>, item: T) -> Result<(), NoMemory>
     ensures { OnOk result (list.new.items ≡ list.old.items ++ item ∷ []) }
 {
     match list.push(item) {

@@ -8,7 +8,7 @@ ghost use Rattle.pp_trace.specs.TraceLists.{KeysFit};
 ghost use Rattle.pp_running.specs.Run.{IsRunOf, IsOpened};
 ghost use Rattle.pp_running.specs.Jobs.{HaveRoom, views_of};
 
-mod jobs;
+pub mod jobs;
 
 use jobs::{jobs_of, parts_of};
 use pp_callers::run;

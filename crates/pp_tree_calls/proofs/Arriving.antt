@@ -1,12 +1,12 @@
 -- From the end of a seek a call is answered, or comes to its next kind of turn.
-use Rattle.std.proofs.Common.{◌≡◌, ◌≢◌, ◌⊎◌, ℕ, ◌+◌, ◌*◌, ◌/◌, ◌%◌, ◌<◌, ◌≤◌, ◌^◌, Bool, true, false, cond, nat_eq, length, List, [], ◌∷◌, ◌++◌, refl, sym, ap, ◌∙◌, subst, inl, inr, arith}
+use Rattle.std.proofs.Common.{◌≡◌, ◌≢◌, ◌⊎◌, ℕ, ◌+◌, ◌*◌, ◌/◌, ◌%◌, ◌<◌, ◌≤◌, ◌^◌, Bool, true, false, cond, nat_eq, length, List}
+use Rattle.std.proofs.Common.{◌∷◌, ◌++◌, refl, sym, ap, ◌∙◌, subst, inl, inr, arith}
 use Rattle.std.proofs.Common.{Option, Some, None, eqb-true, eq-eqb, ne_eqb, ⊎_elim, append_assoc}
-use Rattle.std.specs.Prelude.{◌||◌, not}
+use Rattle.std.specs.Prelude.{not}
 use Rattle.std.proofs.Math.Bool.{false≢true}
 use Rattle.pp_link.specs.declared.layout.Sizes.{Sizes}
 use Rattle.pp_link.specs.declared.link.Link.{Link}
 use Rattle.pp_link.specs.Links.{target, word_of, flag_bit, tag_bit, bit}
-use Rattle.pp_link.specs.Places.{cell_place}
 use Rattle.pp_model.specs.declared.Answer.{Answer}
 use Rattle.pp_model.specs.declared.Answer.TheVariants.{Said}
 use Rattle.pp_model.specs.declared.Call.{Call}
@@ -16,21 +16,18 @@ use Rattle.pp_model.specs.declared.Pair.{Pair}
 use Rattle.pp_model.specs.FiniteMap.{find}
 use Rattle.pp_model.specs.History.{after}
 use Rattle.pp_model.specs.declared.Reply.{Reply}
-use Rattle.pp_model.specs.declared.Reply.TheVariants.{Value, Absent, Added, Held, Took, Other}
+use Rattle.pp_model.specs.declared.Reply.TheVariants.{Value, Absent, Held, Took, Other}
 use Rattle.pp_model.specs.declared.Turned.{Turned}
 use Rattle.pp_model.specs.declared.Turned.TheVariants.{On, Done}
 use Rattle.pp_model.specs.declared.steps.Step.{Step}
 use Rattle.pp_model.specs.Calls.{key_of, changes, reply_at, Takes, removes, cuts}
-use Rattle.pp_model.specs.Pass.{MapSizes}
 use Rattle.pp_rule.specs.Lists.{BeginsWith}
-use Rattle.pp_rule.specs.Orders.{log_of, read_step}
+use Rattle.pp_rule.specs.Orders.{log_of}
 use Rattle.pp_rule.specs.Views.{slot, value_of}
 use Rattle.pp_rule.proofs.Histories.{log_begins}
 use Rattle.pp_base.specs.declared.purse.Purse.{Purse}
 use Rattle.pp_base.specs.declared.source.Side.{Side}
-use Rattle.pp_base.specs.Passes.{IsAtRest}
 use Rattle.pp_base.specs.Sources.{side_number}
-use Rattle.pp_calls.specs.Steps.{Stepped}
 use Rattle.pp_calls.proofs.Growing.{begins_long, stepped_none}
 use Rattle.pp_shelf.specs.Runs.{map_sizes, steps_made}
 use Rattle.pp_seek.specs.declared.seek.Spot.{Spot}
@@ -38,29 +35,28 @@ use Rattle.pp_seek.specs.declared.seek.Sought.{Sought}
 use Rattle.pp_seek.specs.Seeking.{IsSought}
 use Rattle.pp_trees.specs.Trees.{IsRight, across}
 use Rattle.pp_trees.specs.Searches.{TreePass}
-use Rattle.pp_trees.specs.Edges.{TreeView, end_step}
-use Rattle.pp_turns.specs.Tallies.{losing, effected, lost_of, memory_of, later_of}
-use Rattle.pp_turns.specs.Turns.{Since, SawLast, Unplaced, WasAbsent, Replied}
+use Rattle.pp_trees.specs.Edges.{TreeView}
+use Rattle.pp_turns.specs.Tallies.{losing, effected, lost_of, later_of}
+use Rattle.pp_turns.specs.Turns.{Since, Replied}
 use Rattle.pp_turns.proofs.Placing.{replied_later, unplaced_on, after_longer}
 use Rattle.pp_turns.proofs.Stretches.{saw_on}
 use Rattle.pp_tree_turns.specs.Walked.{Walked, tree_reader, TreeTally, moved}
 use Rattle.pp_tree_turns.specs.Causes.{flagged_leaf, ReadsValueOf, EndedElsewhere}
-use Rattle.pp_tree_turns.specs.Turning.{Walks}
-use Rattle.pp_tree_turns.specs.Exchanging.{FlagsNext, TagsNext}
-use Rattle.pp_tree_turns.specs.Filling.{PublishesNext}
 use Rattle.pp_tree_turns.proofs.Exchanges.{tags_beside, tags_again, across_twice, side_two}
 use Rattle.pp_tree_calls.specs.declared.going.TreeGoing.{TreeGoing}
 use Rattle.pp_tree_calls.specs.declared.going.Next.{Next}
 use Rattle.pp_tree_calls.specs.declared.going.Next.TheVariants.{Publishes, Flags, Tags, Over}
 use Rattle.pp_tree_calls.specs.Purses.{TwoRecords, HasOut}
-use Rattle.pp_tree_calls.specs.Going.{is_look, kind_of, spot_of, upper_at, Counts, IsLosing, HasTaken, Tries, Goes, TakesWith, Stands, Carries, IsUnder}
-use Rattle.pp_tree_calls.specs.Answers.{SaysBy, SaysStruck, Ends}
+use Rattle.pp_tree_calls.specs.Going.{is_look, kind_of, spot_of, upper_at, HasTaken, Tries, Goes}
+use Rattle.pp_tree_calls.specs.Going.{Stands}
+use Rattle.pp_tree_calls.specs.Answers.{SaysBy, Ends}
 use Rattle.pp_tree_calls.specs.Turned.{SameGoing, Part, EndedAt, found_by, Idles, HasArrived, HasEnded}
 use Rattle.pp_tree_calls.proofs.Losing.{ends_high}
 use Rattle.pp_tree_calls.proofs.Lasting.{counts_on, losing_on, taken_on, carries_on}
 
 -- what was right at a place stays so
-pub right_on : (longer log : List Change) (start k : ℕ) (a : Option ℕ) → BeginsWith longer log → IsRight log start k a → IsRight longer start k a
+pub right_on : (longer log : List Change) (start k : ℕ) (a : Option ℕ) → BeginsWith longer log → IsRight log start k a
+    → IsRight longer start k a
 right_on longer log start k a b r = let long = begins_long longer log b in let within = r.1.1 in
     (r.0, (r.1.0, omega arith, ap (λ (m : List Pair). find m k) (after_longer longer log r.0 b r.1.1) ∙ r.1.2))
 
@@ -70,13 +66,15 @@ low_bit false = omega arith
 
 -- FLAG and TAG in a link's word
 pub flag_of : (l : Link) → flag_bit (word_of l) ≡ bit l.flag
-flag_of l = go l.number (bit l.leaf) (bit l.invalid) (bit l.tag) (bit l.flag) (low_bit l.leaf) (low_bit l.invalid) (low_bit l.tag) (low_bit l.flag)
+flag_of l = go l.number (bit l.leaf) (bit l.invalid) (bit l.tag) (bit l.flag) (low_bit l.leaf) (low_bit l.invalid) (low_bit l.tag)
+    (low_bit l.flag)
   where
     go : (n l i t f : ℕ) → l ≤ 1 → i ≤ 1 → t ≤ 1 → f ≤ 1 → (16 * n + 8 * l + 4 * i + 2 * t + f) % 2 ≡ f
     go n l i t f a b c d = omega arith
 
 pub tag_of : (l : Link) → tag_bit (word_of l) ≡ bit l.tag
-tag_of l = go l.number (bit l.leaf) (bit l.invalid) (bit l.tag) (bit l.flag) (low_bit l.leaf) (low_bit l.invalid) (low_bit l.tag) (low_bit l.flag)
+tag_of l = go l.number (bit l.leaf) (bit l.invalid) (bit l.tag) (bit l.flag) (low_bit l.leaf) (low_bit l.invalid) (low_bit l.tag)
+    (low_bit l.flag)
   where
     go : (n l i t f : ℕ) → l ≤ 1 → i ≤ 1 → t ≤ 1 → f ≤ 1 → (16 * n + 8 * l + 4 * i + 2 * t + f) / 2 % 2 ≡ t
     go n l i t f a b c d = omega arith
@@ -102,7 +100,8 @@ ends_as z share share' races call records answer v w p q p' same purse e =
 
 -- what a seek found
 pub found_other : (g : TreeGoing) (s : Sought) (q : TreePass) → IsSought q (key_of g.call) s → s.equal ≡ false → found_by g s q ≡ None
-found_other g s q i is = ap (λ (b : Bool). cond b (cond (nat_eq (flag_bit (word_of s.edge)) 0) (Some (value_of (slot q s.word).value)) None) None)
+found_other g s q i is = ap (λ (b : Bool). cond b (cond (nat_eq (flag_bit (word_of s.edge)) 0)
+    (Some (value_of (slot q s.word).value)) None) None)
     (sym i.equal ∙ is)
 
 no_value : Option ℕ
@@ -119,7 +118,8 @@ found_flag g s q is = ap (λ (b : ℕ). cond (nat_eq (slot q s.word).key (key_of
 
 pub found_value : (g : TreeGoing) (s : Sought) (q : TreePass) → IsSought q (key_of g.call) s → s.equal ≡ true
     → flag_bit (word_of s.edge) ≡ 0 → found_by g s q ≡ Some (value_of (slot q s.word).value)
-found_value g s q i is plain = ap (λ (b : Bool). cond b (cond (nat_eq (flag_bit (word_of s.edge)) 0) (Some (value_of (slot q s.word).value)) None) None)
+found_value g s q i is plain = ap (λ (b : Bool). cond b (cond (nat_eq (flag_bit (word_of s.edge)) 0)
+    (Some (value_of (slot q s.word).value)) None) None)
     (sym i.equal ∙ is) ∙ ap (λ (b : ℕ). cond (nat_eq b 0) (Some (value_of (slot q s.word).value)) None) plain
 
 -- A seek that ended stays so over steps that count for nothing.
@@ -146,35 +146,40 @@ module _ (z : Sizes) (share : ℕ) (g : TreeGoing) (s : Sought) (v u : TreeView)
   }
 
   pub arrived_idle : (from : TreeView) (free : List ℕ) → HasArrived z share g s v p from free → HasArrived z share g s u p from free
-  arrived_idle from free k = let a = idle.walks g.call k.counts.tally k.counts.calm in let zero : g.lost ≡ g.lost + 0 = omega arith in record {
-    counts = counts_on (map_sizes z) g.call from v u 0 g.lost g.lost g.struck k.counts a zero own_start;
-    last = saw_on from v u k.counts.since.went k.last idle.stepped;
-    losing_still = λ off. losing_on (map_sizes z) g.call from v u 0 k.counts.tally a.memory (steps_made v u) (k.losing_still off);
-    settled = λ off same. subst (λ (q : TreePass). Replied g.call (reply_at g.call (found_by g s q)) q.own.start from u) (sym idle.known)
-        (replied_later g.call (reply_at g.call (found_by g s v.known)) v.known.own.start from v u k.counts.since.went.number idle.stepped.order
-        (k.settled off (ap (λ (q : TreePass). changes (reply_at g.call (found_by g s q))) (sym idle.known) ∙ same)) idle.unplaced);
-    opened = λ off change. let o = k.opened off (ap (λ (q : TreePass). changes (reply_at g.call (found_by g s q))) (sym idle.known) ∙ change) in (
-      unplaced_on from v u k.counts.since.went.number o.0 idle.unplaced,
-      subst (λ (q : TreePass). IsRight (log_of u.order) q.own.start (key_of g.call) (found_by g s q)) (sym idle.known)
-          (right_on (log_of u.order) (log_of v.order) v.known.own.start (key_of g.call) (found_by g s v.known)
-          (log_begins u.order v.order idle.stepped.order) o.1),
-    );
-    taken = λ on. taken_on (map_sizes z) g.call from v u 0 g.races g.taken v.known.own.start k.counts.tally a.memory k.counts.since
-        idle.stepped idle.unplaced (k.taken on);
-    ended = λ on. subst (λ (q : TreePass). EndedAt (word_of s.edge) (slot q s.word).key (later_of (moved k.counts.tally a.memory 0 (steps_made v u))))
-        (sym idle.known) (ended_later k.counts.tally a.memory (word_of s.edge) (slot v.known s.word).key (k.ended on));
-    carries = carries_on share g.call g.records from v u free p p (ap (λ (q : TreePass). q.sizes) idle.known)
-        (λ out. subst (λ (q : TreePass). HasOut q p g.records) (sym idle.known) out) refl
-        (λ looks. (
-          idle.stepped,
-          idle.none,
-          record {
-            sizes = ap (λ (q : TreePass). q.sizes) idle.known;
-            retired = ap (λ (q : TreePass). q.retired) idle.known;
-            chains = ap (λ (q : TreePass). length q.chains) idle.known;
-          },
-        )) k.carries;
-  }
+  arrived_idle from free k = let a = idle.walks g.call k.counts.tally k.counts.calm in
+      let zero : g.lost ≡ g.lost + 0 = omega arith in record {
+        counts = counts_on (map_sizes z) g.call from v u 0 g.lost g.lost g.struck k.counts a zero own_start;
+        last = saw_on from v u k.counts.since.went k.last idle.stepped;
+        losing_still = λ off. losing_on (map_sizes z) g.call from v u 0 k.counts.tally a.memory (steps_made v u) (k.losing_still off);
+        settled = λ off same. subst (λ (q : TreePass). Replied g.call (reply_at g.call (found_by g s q)) q.own.start from u)
+            (sym idle.known)
+            (replied_later g.call (reply_at g.call (found_by g s v.known)) v.known.own.start from v u
+            k.counts.since.went.number idle.stepped.order
+            (k.settled off (ap (λ (q : TreePass). changes (reply_at g.call (found_by g s q))) (sym idle.known) ∙ same)) idle.unplaced);
+        opened = λ off change. let o = k.opened off (ap (λ (q : TreePass). changes (reply_at g.call (found_by g s q)))
+            (sym idle.known) ∙ change) in (
+              unplaced_on from v u k.counts.since.went.number o.0 idle.unplaced,
+              subst (λ (q : TreePass). IsRight (log_of u.order) q.own.start (key_of g.call) (found_by g s q)) (sym idle.known)
+                  (right_on (log_of u.order) (log_of v.order) v.known.own.start (key_of g.call) (found_by g s v.known)
+                  (log_begins u.order v.order idle.stepped.order) o.1),
+            );
+        taken = λ on. taken_on (map_sizes z) g.call from v u 0 g.races g.taken v.known.own.start k.counts.tally a.memory k.counts.since
+            idle.stepped idle.unplaced (k.taken on);
+        ended = λ on. subst (λ (q : TreePass). EndedAt (word_of s.edge) (slot q s.word).key
+            (later_of (moved k.counts.tally a.memory 0 (steps_made v u))))
+            (sym idle.known) (ended_later k.counts.tally a.memory (word_of s.edge) (slot v.known s.word).key (k.ended on));
+        carries = carries_on share g.call g.records from v u free p p (ap (λ (q : TreePass). q.sizes) idle.known)
+            (λ out. subst (λ (q : TreePass). HasOut q p g.records) (sym idle.known) out) refl
+            (λ looks. (
+              idle.stepped,
+              idle.none,
+              record {
+                sizes = ap (λ (q : TreePass). q.sizes) idle.known;
+                retired = ap (λ (q : TreePass). q.retired) idle.known;
+                chains = ap (λ (q : TreePass). length q.chains) idle.known;
+              },
+            )) k.carries;
+      }
 
 module _ (z : Sizes) (share : ℕ) (g : TreeGoing) (s : Sought) (v : TreeView) (p : Purse) where
   -- It is answered by a reply that was settled.
@@ -248,7 +253,8 @@ module _ (z : Sizes) (share : ℕ) (g : TreeGoing) (s : Sought) (v : TreeView) (
         goes_on = tt;
         answered = λ from free k stands. let h = k.taken on in
             let x = ended_elsewhere k.counts.tally from h (k.ended on)
-            (⊎_elim (λ (a : flag_bit (word_of s.edge) ≡ 0). inl a) (λ (b : (slot v.known s.word).key ≢ key_of g.call). inr (inl b)) other) in
+            (⊎_elim (λ (a : flag_bit (word_of s.edge) ≡ 0). inl a) (λ (b : (slot v.known s.word).key ≢ key_of g.call). inr
+            (inl b)) other) in
             e.answered from free record {
               by = record {
                 start = v.known.own.start;
@@ -259,7 +265,11 @@ module _ (z : Sizes) (share : ℕ) (g : TreeGoing) (s : Sought) (v : TreeView) (
                 since = subst (λ (y : TreeTally). Since tree_reader (map_sizes z) g.call v.known.own.start y from v) h.is k.counts.since;
                 few = h.few;
                 struck = h.struck;
-                took = λ y is. (inr (inr (subst (EndedElsewhere (map_sizes z) g.call) (ap (λ (y : TreeTally). later_of y) h.is) x)), h.some);
+                took = λ y is. (
+                  inr (inr (subst (EndedElsewhere (map_sizes z) g.call)
+                      (ap (λ (y : TreeTally). later_of y) h.is) x)),
+                  h.some,
+                );
               };
               last = k.last;
               sizes = k.carries.sizes;
@@ -324,7 +334,8 @@ module _ (z : Sizes) (share : ℕ) (g : TreeGoing) (s : Sought) (v : TreeView) (
         ))
 
     -- beside an edge with FLAG the other one is tagged
-    pub opens_beside : (side : Side) → is_look g.call ≡ false → side_number side ≡ across (side_number s.side) → flag_bit (word_of s.edge) ≡ 1
+    pub opens_beside : (side : Side) → is_look g.call ≡ false → side_number side ≡ across (side_number s.side) → flag_bit
+        (word_of s.edge) ≡ 1
         → Part z share (HasArrived z share g s v p) g (record g { next = Tags s side }) v v p On
     opens_beside side change is flag = arrived_opens (Tags s side) (omega arith) refl
         (λ from free k. (
@@ -362,7 +373,8 @@ module _ (z : Sizes) (share : ℕ) (g : TreeGoing) (s : Sought) (v : TreeView) (
             (by_eq (target (word_of s.edge)) (flagged_leaf (steps_made from v)))
 
 -- the key of the leaf is another one
-pub other_key : (g : TreeGoing) (s : Sought) (q : TreePass) → IsSought q (key_of g.call) s → s.equal ≡ false → (slot q s.word).key ≢ key_of g.call
+pub other_key : (g : TreeGoing) (s : Sought) (q : TreePass) → IsSought q (key_of g.call) s → s.equal ≡ false →
+    (slot q s.word).key ≢ key_of g.call
 other_key g s q i other same = false≢true (sym other ∙ (i.equal ∙ eq-eqb (slot q s.word).key (key_of g.call) same))
 
 -- a part of a turn of a pass with the same share and purse

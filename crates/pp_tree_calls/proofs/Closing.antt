@@ -1,34 +1,33 @@
 -- A call on a tree that is ended meets its clauses.
-use Rattle.std.proofs.Common.{◌≡◌, ◌≢◌, ◌⊎◌, ℕ, ◌+◌, ◌-◌, ◌*◌, ◌<◌, ◌≤◌, min, Bool, true, false, cond, List, [], ◌∷◌, ◌++◌, map, length, refl, sym, ap, ◌∙◌}
-use Rattle.std.proofs.Common.{subst, ⊎_elim, inl, inr, Option, Some, None, append_assoc, length-append, arith}
+use Rattle.std.proofs.Common.{◌≡◌, ◌≢◌, ℕ, ◌+◌, ◌-◌, ◌≤◌, Bool, true, false, List, ◌++◌}
+use Rattle.std.proofs.Common.{length, refl, sym, ap, ◌∙◌}
+use Rattle.std.proofs.Common.{subst, ⊎_elim, inl, inr, append_assoc, length-append, arith}
 use Rattle.pp_link.specs.declared.layout.Sizes.{Sizes}
 use Rattle.pp_model.specs.declared.Answer.{Answer}
 use Rattle.pp_model.specs.declared.Answer.TheVariants.{Said, Full, Lost}
 use Rattle.pp_model.specs.declared.Call.{Call}
 use Rattle.pp_model.specs.declared.Call.TheVariants.{Get, Insert, Remove, Cut}
 use Rattle.pp_model.specs.declared.Reply.{Reply}
-use Rattle.pp_model.specs.declared.Reply.TheVariants.{Took}
 use Rattle.pp_model.specs.declared.steps.Step.{Step}
 use Rattle.pp_model.specs.declared.steps.OrderEntry.{OrderEntry}
 use Rattle.pp_model.specs.declared.Change.{Change}
 use Rattle.pp_model.specs.Calls.{changes}
 use Rattle.pp_model.specs.MapCalls.{LeftAlone, LeavesPurse, Tidied, AnswersCall}
-use Rattle.pp_model.specs.Pass.{MapSizes, steps_of, replayed}
+use Rattle.pp_model.specs.Pass.{steps_of, replayed}
 use Rattle.pp_rule.specs.Causes.{WasDetached, memory_after}
 use Rattle.pp_rule.specs.Lists.{IsIn}
-use Rattle.pp_rule.specs.Orders.{made_by, entries_of, clear_step}
+use Rattle.pp_rule.specs.Orders.{made_by, entries_of}
 use Rattle.pp_rule.proofs.Histories.{entries_append}
 use Rattle.pp_base.specs.declared.purse.Purse.{Purse}
-use Rattle.pp_base.specs.Named.{NamedStep, name_of}
+use Rattle.pp_base.specs.Named.{NamedStep}
 use Rattle.pp_calls.specs.PoolViews.{pool_view, is_writing}
 use Rattle.pp_calls.specs.Steps.{Went, Stepped, StandsThen, WriteNone}
 use Rattle.pp_calls.proofs.Growing.{kinds_none, went_on}
 use Rattle.pp_shelf.specs.Runs.{map_sizes, steps_made}
 use Rattle.pp_seek.specs.Trails.{Clears}
 use Rattle.pp_trees.specs.Edges.{TreeView}
-use Rattle.pp_purse.specs.Purses.{TidiesPurse}
-use Rattle.pp_turns.specs.Tallies.{Tally, losing, effected}
-use Rattle.pp_turns.specs.Turns.{Ran, Since, Unplaced, Struck, Replied, SawLast, Kept}
+use Rattle.pp_turns.specs.Tallies.{losing, effected}
+use Rattle.pp_turns.specs.Turns.{Since, SawLast, Kept}
 use Rattle.pp_turns.specs.Causes.{TookBy, Aside}
 use Rattle.pp_turns.proofs.Aside.{aside_at_purse, aside_both, counts_losing, counts_effected}
 use Rattle.pp_turns.proofs.Answering.{says_plain, says_struck, gave_up}
@@ -40,8 +39,8 @@ use Rattle.pp_tree_turns.specs.Causes.{tree_words, tree_causes, tree_meaning, Ho
 use Rattle.pp_tree_turns.proofs.Counting.{flagged_on, elsewhere_on}
 use Rattle.pp_tree_turns.proofs.Reading.{tree_over}
 use Rattle.pp_tree_calls.specs.Going.{is_look}
-use Rattle.pp_tree_calls.specs.Purses.{TwoRecords, LooksAway, TidiesUp, out_of}
-use Rattle.pp_tree_calls.specs.Answers.{Leaves, SaysPlain, SaysStruck, GivesUp, SaysBy, AnswersBy, spends_of, MayEnd, Ends}
+use Rattle.pp_tree_calls.specs.Purses.{TwoRecords, TidiesUp, out_of}
+use Rattle.pp_tree_calls.specs.Answers.{Leaves, SaysPlain, SaysStruck, GivesUp, SaysBy, AnswersBy, spends_of, Ends}
 use Rattle.pp_tree_calls.proofs.Resting.{aside_clears}
 
 -- What ends a call counts for nothing in it.
@@ -60,7 +59,8 @@ module _ (z : Sizes) (share : ℕ) (records : TwoRecords) (from v w : TreeView) 
   -- the purse of a call that changes its tree
   tidies : (spends : ℕ) → TidiesUp z share records v w p p' → Kept free share p.free.items (out_of records + spends)
       → length w.known.chains ≤ 4 → Tidied tree_meaning (map_sizes z) spends (pool_view from free share) (pool_view w p'.free.items share)
-  tidies spends t kept four = subst (λ (f : List ℕ). Tidied tree_meaning (map_sizes z) spends (pool_view from free share) (pool_view w f share))
+  tidies spends t kept four = subst (λ (f : List ℕ). Tidied tree_meaning (map_sizes z) spends (pool_view from free share)
+      (pool_view w f share))
       (sym (ap (λ f. f.items) t.free))
       (tidied tree_meaning z refl from t.between w free share spends t.middle t.last (λ steps f. f)
       (went_on from v t.between went (aside_clears z v t.between t.clears).stepped)
@@ -103,7 +103,8 @@ module _ (z : Sizes) (call : Call) (races start : ℕ) (from v w : TreeView) (m 
         begins = (
           d.begins.0 ++ entries_of s.order.0,
           ap entries_of s.order.1 ∙ (entries_append v.order s.order.0
-              ∙ (ap (λ (l : List (OrderEntry Change)). l ++ entries_of s.order.0) d.begins.1 ∙ append_assoc d.so_far d.begins.0 (entries_of s.order.0))),
+              ∙ (ap (λ (l : List (OrderEntry Change)). l ++ entries_of s.order.0) d.begins.1 ∙ append_assoc d.so_far d.begins.0
+              (entries_of s.order.0))),
         );
         since = let n : ℕ = v.known.number in let was = d.since in
             let all : length (made_by w.known.number w.order) ≡ length (made_by n v.order) + length s.steps =
@@ -139,14 +140,16 @@ module _ (z : Sizes) (share races : ℕ) (call : Call) (records : TwoRecords) (v
     struck : (said : Reply) → SaysStruck z races call said from v
         → AnswersCall tree_meaning (map_sizes z) call races (pool_view from free share) (pool_view w p'.free.items share) (Said said)
     struck said b =
-        let t' : TreeTally = effected (memory_after tree_reader (map_sizes z) call b.memory (steps_made v w)) b.lost b.early (b.later ++ steps_made v w) in
+        let t' : TreeTally = effected (memory_after tree_reader (map_sizes z) call b.memory (steps_made v w)) b.lost b.early
+        (b.later ++ steps_made v w) in
         let on = since_on tree_reader (map_sizes z) call b.start (effected b.memory b.lost b.early b.later) t' from v w b.since
         (counts_effected tree_reader z (tree_over z) call v w aside b.memory b.lost b.early b.later) in
         says_struck tree_words tree_causes HoldsPairs (map_sizes z) call races from w free p'.free.items share b.start t' on
         (saw_on from v w b.since.went last aside.stepped) (sizes ∙ all_sizes) stands said
         (struck_later call said from v w b.since.went.number aside.stepped.order b.struck aside.unplaced) b.few
         (λ x is. let why = b.took x is in
-        took_on z call races b.start from v w b.memory (memory_after tree_reader (map_sizes z) call b.memory (steps_made v w)) b.lost b.early b.later b.since aside.stepped why.0 why.1)
+        took_on z call races b.start from v w b.memory (memory_after tree_reader (map_sizes z) call b.memory
+        (steps_made v w)) b.lost b.early b.later b.since aside.stepped why.0 why.1)
         (leaves_purse z share records from v w free p p' b.since.went call l kept alone four)
 
     gives_up : (turns : ℕ) → GivesUp z races call turns from v

@@ -1,7 +1,8 @@
 -- The turns of a call after its seek.
-use Rattle.std.proofs.Common.{◌≡◌, ◌≢◌, ◌⊎◌, ℕ, ◌+◌, ◌-◌, ◌*◌, ◌<◌, ◌≤◌, ◌^◌, Bool, true, false, cond, List, [], ◌∷◌, ◌++◌, map, length, refl, sym, ap, ◌∙◌, subst, ⊎_elim, inl, inr}
-use Rattle.std.proofs.Common.{Option, Some, None, append_assoc, append-nil, arith, ne_eqb, eq-eqb}
-use Rattle.std.specs.Prelude.{not, nat_eq}
+use Rattle.std.proofs.Common.{◌≡◌, ℕ, ◌+◌, ◌-◌, ◌<◌, ◌≤◌, ◌^◌, true, false, List, [], ◌∷◌, ◌++◌, map}
+use Rattle.std.proofs.Common.{length, refl, sym, ap, ◌∙◌, subst, ⊎_elim, inl, inr}
+use Rattle.std.proofs.Common.{Option, Some, None, append-nil, arith, ne_eqb, eq-eqb}
+use Rattle.std.specs.Prelude.{nat_eq}
 use Rattle.std.proofs.Math.Bool.{false≢true}
 use Rattle.pp_link.specs.declared.layout.Sizes.{Sizes}
 use Rattle.pp_link.specs.declared.link.Link.{Link}
@@ -15,55 +16,50 @@ use Rattle.pp_rule.specs.Orders.{made_by, entries_of}
 use Rattle.pp_calls.proofs.Growing.{stepped_none}
 use Rattle.pp_turns.proofs.Stretches.{steps_none}
 use Rattle.pp_seek.specs.Trails.{reads}
-use Rattle.pp_model.specs.declared.Call.{Call}
-use Rattle.pp_model.specs.declared.Reply.{Reply}
 use Rattle.pp_model.specs.declared.Reply.TheVariants.{Took}
 use Rattle.pp_model.specs.declared.Turned.{Turned}
 use Rattle.pp_model.specs.declared.Turned.TheVariants.{On, Done}
 use Rattle.pp_model.specs.declared.steps.Step.{Step}
-use Rattle.pp_model.specs.Calls.{key_of}
 use Rattle.pp_model.specs.MapCalls.{WentOn, next_kind, took_effect}
-use Rattle.pp_rule.specs.declared.views.Chain.{Chain}
 use Rattle.pp_rule.specs.declared.views.PrivateRecord.{PrivateRecord}
-use Rattle.pp_rule.specs.Orders.{log_of}
 use Rattle.pp_base.specs.declared.purse.Purse.{Purse}
 use Rattle.pp_base.specs.declared.source.Side.{Side}
 use Rattle.pp_base.specs.Named.{NamedStep, name_of}
 use Rattle.pp_base.specs.Passes.{IsAtRest, owned_numbers}
 use Rattle.pp_base.specs.Sources.{side_number}
-use Rattle.pp_calls.specs.Steps.{Stepped, HasOwn, StandsThen, WriteNone, SamePurse}
+use Rattle.pp_calls.specs.Steps.{Stepped, HasOwn, StandsThen}
 use Rattle.pp_shelf.specs.Runs.{map_sizes, steps_made}
 use Rattle.pp_seek.specs.declared.seek.Spot.{Spot}
 use Rattle.pp_rule.specs.Lists.{times}
 use Rattle.pp_pool.specs.Taken.{IsPrivate}
 use Rattle.pp_seek.specs.declared.seek.Sought.{Sought}
-use Rattle.pp_seek.specs.Trails.{SameCall}
-use Rattle.pp_seek.specs.Seeking.{IsSought}
-use Rattle.pp_trees.specs.Trees.{across, inf0}
+use Rattle.pp_trees.specs.Trees.{across}
 use Rattle.pp_trees.specs.Searches.{TreePass}
-use Rattle.pp_trees.specs.Edges.{TreeView, flag_step, flagged_pass}
+use Rattle.pp_trees.specs.Edges.{TreeView, flag_step}
 use Rattle.pp_turns.specs.Tallies.{losing, effected, lost_of, memory_of, later_of}
-use Rattle.pp_turns.specs.Turns.{Ran, Since, Unplaced, Struck, SawLast}
+use Rattle.pp_turns.specs.Turns.{Since, Unplaced}
 use Rattle.pp_turns.specs.Causes.{TookBy}
 use Rattle.pp_turns.proofs.Detached.{was_detached}
-use Rattle.pp_turns.proofs.Placing.{unplaced_on, struck_on}
+use Rattle.pp_turns.proofs.Placing.{struck_on}
 use Rattle.pp_turns.proofs.Stretches.{saw_last, since_on, steps_both}
-use Rattle.pp_tree_turns.specs.Walked.{Walked, fresh_walk, tree_reader, TreeTally, moved, one_if}
+use Rattle.pp_tree_turns.specs.Walked.{Walked, fresh_walk, tree_reader, TreeTally, moved}
 use Rattle.pp_tree_turns.specs.Causes.{tree_words, tree_causes, flagged_leaf, ReadsValueOf, EndedElsewhere}
-use Rattle.pp_tree_turns.specs.Turning.{Names, Walks}
-use Rattle.pp_tree_turns.specs.Exchanging.{flags, FlagsNext, TagsNext, SplicesNext, MissesEdge, FlagsLeaf, TagsEdge, MissesPath, TakesPath}
+use Rattle.pp_tree_turns.specs.Turning.{Walks}
+use Rattle.pp_tree_turns.specs.Exchanging.{flags, FlagsNext, SplicesNext, MissesEdge, FlagsLeaf, TagsEdge, MissesPath, TakesPath}
 use Rattle.pp_tree_turns.proofs.Exchanges.{tags_after_flag, across_twice, side_two}
-use Rattle.pp_tree_turns.proofs.Counting.{TakesEffect, struck_walk, edge_misses, path_misses, path_takes, tag_walks, flag_strikes, flagged_losing, flagged_here, flagged_on, elsewhere_on}
+use Rattle.pp_tree_turns.proofs.Counting.{TakesEffect, struck_walk, edge_misses, path_misses, path_takes, tag_walks, flag_strikes}
+use Rattle.pp_tree_turns.proofs.Counting.{flagged_losing, flagged_here, flagged_on, elsewhere_on}
 use Rattle.pp_tree_calls.specs.declared.going.TreeGoing.{TreeGoing}
 use Rattle.pp_tree_calls.specs.declared.going.Next.{Next}
 use Rattle.pp_tree_calls.specs.declared.going.Next.TheVariants.{Flags, Tags, Splices, Over}
 use Rattle.pp_tree_calls.specs.Purses.{TwoRecords, HasOut}
-use Rattle.pp_tree_calls.specs.Going.{is_look, kind_of, spot_of, upper_at, going_of, Counts, IsLosing, HasTaken, Tries, Goes, TakesWith, Stands, Carries, IsUnder}
-use Rattle.pp_tree_calls.specs.Answers.{SaysStruck, MayEnd, Ends}
-use Rattle.pp_tree_calls.specs.Turned.{Part, SameGoing, HasMissed, TreeTurned}
+use Rattle.pp_tree_calls.specs.Going.{is_look, kind_of, spot_of, upper_at, going_of, IsLosing, HasTaken, Tries}
+use Rattle.pp_tree_calls.specs.Going.{TakesWith, Stands, IsUnder}
+use Rattle.pp_tree_calls.specs.Answers.{MayEnd, Ends}
+use Rattle.pp_tree_calls.specs.Turned.{Part, HasMissed, TreeTurned}
 use Rattle.pp_tree_calls.proofs.Losing.{ends_high}
-use Rattle.pp_tree_calls.proofs.Lasting.{counts_on, losing_on, taken_on, tries_on, carries_on, moved_memory}
-use Rattle.pp_tree_calls.proofs.Treading.{some_named, turned_by, turned_same}
+use Rattle.pp_tree_calls.proofs.Lasting.{counts_on, tries_on, carries_on}
+use Rattle.pp_tree_calls.proofs.Treading.{some_named}
 use Rattle.pp_tree_calls.proofs.Arriving.{over_same}
 
 -- steps among whose names there is one are some steps
@@ -73,7 +69,8 @@ some_in [] n names steps e = some_named n names steps e
 some_in (f ∷ flush) n names steps e = some_named f (flush ++ n ∷ names) steps e
 
 -- the same records are out, where the pass owns the same numbers and as much is free
-pub out_free : (records : TwoRecords) (q q' : TreePass) (p p' : Purse) → owned_numbers q' ≡ owned_numbers q → p'.free ≡ p.free → p'.taken ≡ p.taken
+pub out_free : (records : TwoRecords) (q q' : TreePass) (p p' : Purse) → owned_numbers q' ≡ owned_numbers q → p'.free ≡ p.free
+    → p'.taken ≡ p.taken
     → HasOut q p records → HasOut q' p' records
 out_free None q q' p p' owned free taken out = taken ∙ out
 out_free (Some f) q q' p p' owned free taken out = (more f.0.number out.0, more f.1.number out.1, out.2, taken ∙ out.3)
@@ -139,7 +136,8 @@ module _ (z : Sizes) (share : ℕ) (g : TreeGoing) (s : Sought) (v u : TreeView)
   -- Of what was taken the leaf goes with the path still.
   takes_with : (side : Side) (from : TreeView) (t : Tries (map_sizes z) g g.lost from v) (m : Walked) → Stepped v u
       → u.known.own.flag ≡ v.known.own.flag → u.known.own.beside ≡ v.known.own.beside
-      → TakesWith (map_sizes z) g side t.counts.tally from v → TakesWith (map_sizes z) g side (moved t.counts.tally m 0 (steps_made v u)) from u
+      → TakesWith (map_sizes z) g side t.counts.tally from v → TakesWith (map_sizes z) g side
+      (moved t.counts.tally m 0 (steps_made v u)) from u
   takes_with side from t m st flag beside k on = let h = t.taken on in
       let same : flagged_leaf (steps_made from u) ≡ flagged_leaf (steps_made from v) =
       ap flagged_leaf (steps_both from v u t.counts.since.went st)
@@ -158,7 +156,8 @@ module _ (z : Sizes) (share : ℕ) (g : TreeGoing) (s : Sought) (v u : TreeView)
       → IsUnder z share (record g { next = Splices s side sibling }) u p' from free
   tag_goes side sibling at e valid may p' same rest from free under =
       let k = subst (λ (n : Next). Stands z g n from v) at under.stands in
-      let good : nat_eq (invalid_bit (word_of sibling)) 1 ≡ false = ne_eqb (invalid_bit (word_of sibling)) 1 (λ bad. let v = valid in omega arith) in
+      let good : nat_eq (invalid_bit (word_of sibling)) 1 ≡ false = ne_eqb (invalid_bit (word_of sibling)) 1
+      (λ bad. let v = valid in omega arith) in
       let a = tag_walks z g.call k.0.counts.tally (word_of sibling) false v u k.0.counts.calm good e in
       let zero : g.lost ≡ g.lost + 0 = omega arith in
       let on = tries_on (map_sizes z) g g.lost g.lost 0 from v u k.0 a zero e.unplaced e.same.start in record {
@@ -204,7 +203,8 @@ module _ (z : Sizes) (share : ℕ) (g : TreeGoing) (s : Sought) (v u : TreeView)
   pub splice_lost : (side : Side) (sibling : Link) → g.next ≡ Splices s side sibling → g.struck ≡ false → TakesPath z v u → (p' : Purse)
       → p'.free ≡ p.free → p'.taken ≡ p.taken → u.known.sizes ≡ v.known.sizes
       → (from : TreeView) (free : List ℕ) → IsUnder z share g v p from free → HasMissed z share g u p' from free
-  splice_lost side sibling at off e p' same taken sizes from free under = let k = subst (λ (n : Next). Stands z g n from v) at under.stands in
+  splice_lost side sibling at off e p' same taken sizes from free under = let k = subst
+      (λ (n : Next). Stands z g n from v) at under.stands in
       has_missed z share g v u p p' from free under k.1.1.0 k.0
       (path_takes z g.call k.0.counts.tally false v u k.0.counts.calm (k.0.counts.struck_is ∙ off) e) e.unplaced
       e.same.start (some_in e.flush _ _ (steps_made v u) e.names.named) sizes
@@ -216,7 +216,8 @@ pub end_part : (z : Sizes) (share : ℕ) (g g' : TreeGoing) (answer : Answer) (u
     → Ends z share g.races g.call g.records answer u w p p'
     → Part z share (λ from free. MayEnd z share g.races g.call g.records answer from u free p) g g' u w p' result
 end_part z share g g' answer u w p p' result over done took e =
-    subst (λ (r : Turned). Part z share (λ from free. MayEnd z share g.races g.call g.records answer from u free p) g g' u w p' r) (sym done) record {
+    subst (λ (r : Turned). Part z share (λ from free. MayEnd z share g.races g.call g.records answer from u free p) g g' u w p' r)
+    (sym done) record {
       stepped = e.aside.stepped;
       stands = e.aside.stands;
       same = over_same g g' over;
@@ -271,7 +272,8 @@ module _ (z : Sizes) (share : ℕ) (g : TreeGoing) (s : Sought) (v u : TreeView)
       record {
         counts = record {
           tally = effected (struck_walk z g.call l.memory) l.lost l.lost e.later;
-          since = subst (λ (n : ℕ). Since tree_reader (map_sizes z) g.call n (effected (struck_walk z g.call l.memory) l.lost l.lost e.later) from u)
+          since = subst (λ (n : ℕ). Since tree_reader (map_sizes z) g.call n
+              (effected (struck_walk z g.call l.memory) l.lost l.lost e.later) from u)
               (sym start) (since_on tree_reader (map_sizes z) g.call v.known.own.start (losing l.memory l.lost) _ from v u since e.ran);
           lost_is = lost;
           calm = calm;
@@ -301,7 +303,8 @@ module _ (z : Sizes) (share : ℕ) (g : TreeGoing) (s : Sought) (v u : TreeView)
           (
             tags_after_flag z g.call s side value v u may f other,
             λ on. inl (
-              ap (λ (q : TreePass). q.own.flag) f.known ∙ (sym (across_twice (side_number s.side) (side_two s.side)) ∙ ap across (sym other)),
+              ap (λ (q : TreePass). q.own.flag) f.known ∙ (sym (across_twice (side_number s.side) (side_two s.side)) ∙ ap across
+                  (sym other)),
               ap (λ (q : TreePass). q.own.beside) f.known ∙ sym leaf,
             ),
           ),
@@ -351,7 +354,8 @@ module _ (z : Sizes) (share : ℕ) (g : TreeGoing) (s : Sought) (v u : TreeView)
     stays = λ on. refl;
     strikes = λ off on. (Took value, f.struck);
     struck = tt;
-    went = subst (λ (n : Next). WentOn (going_of v.known (record g { next = n })) (going_of u.known flagged)) (sym at) (next_kind refl (omega arith));
+    went = subst (λ (n : Next). WentOn (going_of v.known (record g { next = n })) (going_of u.known flagged)) (sym at)
+        (next_kind refl (omega arith));
     goes_on = λ from free under. flag_under f from free under;
     answered = tt;
   }
@@ -404,7 +408,8 @@ module _ (z : Sizes) (share : ℕ) (g : TreeGoing) (s : Sought) (v u : TreeView)
       moved_elsewhere : (y : TreeTally) → HasTaken (map_sizes z) g.call g.races g.taken y from v
           → EndedElsewhere (map_sizes z) g.call (later_of y)
           → EndedElsewhere (map_sizes z) g.call (later_of (moved y a.memory 0 (steps_made v u)))
-      moved_elsewhere y h x = subst (λ (q : TreeTally). EndedElsewhere (map_sizes z) g.call (later_of (moved q a.memory 0 (steps_made v u))))
+      moved_elsewhere y h x = subst (λ (q : TreeTally). EndedElsewhere (map_sizes z) g.call
+          (later_of (moved q a.memory 0 (steps_made v u))))
           (sym h.is) (elsewhere_on (map_sizes z) g.call h.later (steps_made v u)
           (subst (λ (q : TreeTally). EndedElsewhere (map_sizes z) g.call (later_of q)) h.is x))
 

@@ -1,12 +1,12 @@
 -- The seek of a call ended.
-use Rattle.std.proofs.Common.{◌≡◌, ◌≢◌, ◌⊎◌, ℕ, ◌+◌, ◌*◌, ◌<◌, ◌≤◌, ◌^◌, Bool, true, false, cond, List, [], ◌∷◌, ◌++◌, map, length, refl, sym, ap, ◌∙◌, subst, ⊎_elim, inl, inr}
+use Rattle.std.proofs.Common.{◌≡◌, ℕ, ◌+◌, ◌<◌, Bool, true, false, List, [], ◌∷◌, ◌++◌, map}
+use Rattle.std.proofs.Common.{length, refl, sym, ap, ◌∙◌, subst, ⊎_elim}
 use Rattle.std.proofs.Common.{Option, Some, None, append_assoc, arith}
 use Rattle.std.specs.Prelude.{not}
 use Rattle.std.proofs.Math.Bool.{false≢true}
 use Rattle.pp_link.specs.declared.layout.Sizes.{Sizes}
 use Rattle.pp_link.specs.Links.{word_of}
 use Rattle.pp_model.specs.declared.Call.{Call}
-use Rattle.pp_model.specs.declared.Reply.{Reply}
 use Rattle.pp_model.specs.declared.steps.Step.{Step}
 use Rattle.pp_model.specs.Calls.{key_of, changes, reply_at}
 use Rattle.pp_rule.specs.declared.views.Halves.{Halves}
@@ -19,35 +19,31 @@ use Rattle.pp_base.specs.Named.{NamedStep, name_of, loads, announces}
 use Rattle.pp_calls.specs.PoolViews.{is_writing}
 use Rattle.pp_calls.specs.Steps.{Stepped, HasOwn, StandsThen, WriteNone}
 use Rattle.pp_shelf.specs.Runs.{map_sizes, steps_made}
-use Rattle.pp_seek.specs.declared.seek.Seek.{Seek}
 use Rattle.pp_seek.specs.declared.seek.Spot.{Spot}
 use Rattle.pp_seek.specs.declared.seek.Sought.{Sought}
 use Rattle.pp_seek.specs.Trails.{reads}
-use Rattle.pp_seek.specs.Seeking.{Seeks as IsSeek, SeeksAt, IsSought, EndsAtLeaf}
-use Rattle.pp_trees.specs.Trees.{inf0, IsRight}
-use Rattle.pp_trees.specs.Searches.{TreePass}
+use Rattle.pp_seek.specs.Seeking.{SeeksAt, IsSought, EndsAtLeaf}
+use Rattle.pp_trees.specs.Trees.{IsRight}
 use Rattle.pp_trees.specs.Edges.{TreeView, end_step}
 use Rattle.pp_trees.specs.Seeks.{found_at}
-use Rattle.pp_turns.specs.Tallies.{effected, memory_of, later_of}
-use Rattle.pp_turns.specs.Turns.{Unplaced, SawLast, Replied}
+use Rattle.pp_turns.specs.Tallies.{effected, later_of}
+use Rattle.pp_turns.specs.Turns.{Replied}
 use Rattle.pp_turns.proofs.Placing.{unplaced_on, replied_on}
 use Rattle.pp_turns.proofs.Stretches.{saw_last}
 use Rattle.pp_tree_turns.specs.Walked.{Walked, TreeTally, moved}
-use Rattle.pp_tree_turns.specs.Turning.{Names, Walks}
-use Rattle.pp_tree_turns.proofs.Ends.{four_steps, ending, ends_names, ends_walks, sought_value, ends_replied, ends_effect, ends_again, ends_same}
+use Rattle.pp_tree_turns.proofs.Ends.{four_steps, ending, ends_names, ends_walks, sought_value, ends_replied, ends_effect}
+use Rattle.pp_tree_turns.proofs.Ends.{ends_again, ends_same}
 use Rattle.pp_tree_calls.specs.declared.going.TreeGoing.{TreeGoing}
-use Rattle.pp_tree_calls.specs.declared.going.Next.{Next}
-use Rattle.pp_tree_calls.specs.declared.going.Next.TheVariants.{Seeks}
-use Rattle.pp_tree_calls.specs.Purses.{HasOut}
-use Rattle.pp_tree_calls.specs.Going.{is_look, kind_of, Begun, Counts, IsLosing, HasTaken, Tries, Goes, Stands, Carries, IsUnder}
+use Rattle.pp_tree_calls.specs.Going.{kind_of, Begun, Tries, Goes, IsUnder}
 use Rattle.pp_tree_calls.specs.Turned.{EndedAt, found_by, HasArrived, HasEnded}
 use Rattle.pp_tree_calls.proofs.Resting.{rest_kept, same_purse}
-use Rattle.pp_tree_calls.proofs.Lasting.{silent_none, counts_on, losing_on, taken_on, tries_on, carries_on, out_same}
+use Rattle.pp_tree_calls.proofs.Lasting.{silent_none, counts_on, losing_on, taken_on, carries_on, out_same}
 use Rattle.pp_tree_calls.proofs.Treading.{some_named}
 
 -- what the steps of a seek's end are
 ended_at : (place edge announced number at read key : ℕ) (t : TreeTally) (m : Walked) (k : ℕ) (steps : List Step)
-    → map name_of steps ≡ loads place edge ∷ announces announced number ∷ record { kind = end_step; place = at; word = edge } ∷ reads read key ∷ []
+    → map name_of steps ≡ loads place edge ∷ announces announced number
+    ∷ record { kind = end_step; place = at; word = edge } ∷ reads read key ∷ []
     → (memory : Walked) (lost early : ℕ) (later : List Step) → t ≡ effected memory lost early later
     → EndedAt edge key (later_of (moved t m k steps))
 ended_at place edge announced number at read key t m k steps named memory lost early later is =
@@ -126,8 +122,8 @@ module _ (z : Sizes) (share : ℕ) (g : TreeGoing) (k : ℕ) (sought : Sought) (
           losing_still = λ off. losing_on (map_sizes z) g.call from v w 0 t.counts.tally a.memory (steps_made v w) (t.untaken off).0;
           settled = λ off plain. subst (λ (n : ℕ). Replied g.call (reply_at g.call (found_by g sought w.known)) n from w) (sym s.1)
               (subst (λ (o : Option ℕ). Replied g.call (reply_at g.call o) v.known.own.start from w) (sym found_is)
-              (replied_on g.call (reply_at g.call (sought_value z g.call k sought v w e)) v.known.own.start from v w t.counts.since.went.number
-              (t.untaken off).1 (ends_replied z g.call k sought v w e goes.call (goes.going ∙ ap not off)
+              (replied_on g.call (reply_at g.call (sought_value z g.call k sought v w e)) v.known.own.start from v w
+              t.counts.since.went.number (t.untaken off).1 (ends_replied z g.call k sought v w e goes.call (goes.going ∙ ap not off)
               (ap (λ (o : Option ℕ). changes (reply_at g.call o)) (sym found_is) ∙ plain))));
           opened = λ off change. let x = ends_effect z g.call k sought v w e goes.call (goes.going ∙ ap not off)
               (ap (λ (o : Option ℕ). changes (reply_at g.call o)) (sym found_is) ∙ change) in (

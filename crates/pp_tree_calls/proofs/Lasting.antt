@@ -1,36 +1,32 @@
 -- What is known of a going call stays over a stretch of its steps.
-use Rattle.std.proofs.Common.{◌≡◌, ◌≢◌, ◌⊎◌, ℕ, ◌+◌, ◌<◌, ◌≤◌, Bool, true, false, cond, List, [], ◌∷◌, ◌++◌, map, length, refl, sym, ap, ◌∙◌, subst, ⊎_elim, inl, inr}
-use Rattle.std.proofs.Common.{Option, Some, None, append_assoc, arith}
+use Rattle.std.proofs.Common.{◌≡◌, ℕ, ◌+◌, Bool, true, false, List, ◌++◌, length, refl}
+use Rattle.std.proofs.Common.{sym, ap, ◌∙◌, subst}
+use Rattle.std.proofs.Common.{Option, Some, None, arith}
 use Rattle.pp_link.specs.declared.layout.Sizes.{Sizes}
 use Rattle.pp_model.specs.declared.Call.{Call}
-use Rattle.pp_model.specs.declared.Reply.{Reply}
 use Rattle.pp_model.specs.declared.Reply.TheVariants.{Took}
 use Rattle.pp_model.specs.declared.Turned.{Turned}
 use Rattle.pp_model.specs.declared.Turned.TheVariants.{On, Done}
-use Rattle.pp_model.specs.declared.Answer.{Answer}
 use Rattle.pp_model.specs.declared.steps.Step.{Step}
 use Rattle.pp_model.specs.Pass.{MapSizes}
-use Rattle.pp_model.specs.MapCalls.{LeftAlone}
-use Rattle.pp_rule.specs.declared.views.Chain.{Chain}
 use Rattle.pp_rule.specs.Lists.{IsIn}
-use Rattle.pp_rule.specs.Orders.{log_of}
 use Rattle.pp_base.specs.declared.purse.Purse.{Purse}
-use Rattle.pp_base.specs.Named.{NamedStep, name_of}
-use Rattle.pp_calls.specs.PoolViews.{pool_view, is_writing}
+use Rattle.pp_base.specs.Named.{NamedStep}
+use Rattle.pp_calls.specs.PoolViews.{is_writing}
 use Rattle.pp_calls.specs.Steps.{Stepped, HasOwn, StandsThen, WriteNone, SamePurse}
-use Rattle.pp_calls.proofs.Growing.{kinds_none, stepped_both, stepped_none}
+use Rattle.pp_calls.proofs.Growing.{kinds_none, stepped_both}
 use Rattle.pp_shelf.specs.Runs.{map_sizes, steps_made}
 use Rattle.pp_trees.specs.Searches.{TreePass}
 use Rattle.pp_trees.specs.Edges.{TreeView}
-use Rattle.pp_turns.specs.Tallies.{losing, effected, lost_of, memory_of, later_of}
-use Rattle.pp_turns.specs.Turns.{Since, Unplaced, Struck}
+use Rattle.pp_turns.specs.Tallies.{losing, effected, lost_of, memory_of}
+use Rattle.pp_turns.specs.Turns.{Since, Unplaced}
 use Rattle.pp_turns.proofs.Placing.{unplaced_on, struck_later}
 use Rattle.pp_turns.proofs.Purses.{alone_on}
-use Rattle.pp_turns.proofs.Stretches.{saw_on, since_on, steps_both, own_before, steps_named}
+use Rattle.pp_turns.proofs.Stretches.{saw_on, since_on, steps_both, own_before}
 use Rattle.pp_tree_turns.specs.Walked.{Walked, tree_reader, TreeTally, moved}
-use Rattle.pp_tree_turns.specs.Causes.{flagged_leaf, ReadsValueOf, EndedElsewhere}
+use Rattle.pp_tree_turns.specs.Causes.{flagged_leaf, ReadsValueOf}
 use Rattle.pp_tree_turns.specs.Turning.{Names, Walks}
-use Rattle.pp_tree_turns.proofs.Counting.{flagged_on, reads_on, elsewhere_on, none_walks, aside_counted}
+use Rattle.pp_tree_turns.proofs.Counting.{flagged_on, reads_on, none_walks, aside_counted}
 use Rattle.pp_tree_turns.proofs.Seeks.{trail_names}
 use Rattle.pp_tree_turns.specs.Turning.{Minds}
 use Rattle.pp_purse.specs.Steps.{is_purse_step}
@@ -41,9 +37,9 @@ use Rattle.pp_seek.specs.declared.seek.Spot.{Spot}
 use Rattle.pp_tree_calls.proofs.Resting.{aside_clears, or_clear, same_purse}
 use Rattle.pp_tree_calls.proofs.Closing.{clears_none}
 use Rattle.pp_tree_calls.specs.declared.going.TreeGoing.{TreeGoing}
-use Rattle.pp_tree_calls.specs.Going.{is_look, Counts, IsLosing, HasTaken, Tries, Carries, IsUnder}
+use Rattle.pp_tree_calls.specs.Going.{is_look, Counts, IsLosing, HasTaken, Tries, Carries}
 use Rattle.pp_tree_calls.specs.Purses.{TwoRecords, HasOut}
-use Rattle.pp_tree_calls.specs.Turned.{Part, SameGoing, HasLost, HasMissed}
+use Rattle.pp_tree_calls.specs.Turned.{Part, HasLost, HasMissed}
 
 -- none of the steps writes a link, by their names
 pub silent_none : (names : List NamedStep) (v w : TreeView) → Names names v w → ((s : NamedStep) → IsIn s names → is_writing s.kind ≡ false)
@@ -107,7 +103,8 @@ tries_on z g lost lost' k from v w t a sum none start = record {
     losing_on z g.call from v w k t.counts.tally a.memory (steps_made v w) u.0,
     unplaced_on from v w t.counts.since.went.number u.1 none,
   );
-  taken = λ on. taken_on z g.call from v w k g.races g.taken v.known.own.start t.counts.tally a.memory t.counts.since a.ran.stepped none (t.taken on);
+  taken = λ on. taken_on z g.call from v w k g.races g.taken v.known.own.start t.counts.tally a.memory
+      t.counts.since a.ran.stepped none (t.taken on);
 }
 
 -- what is known of its purse stays, where no link was written or the call doesn't look only
@@ -151,7 +148,8 @@ part_after z share Known Later g g' v u w p' (Done answer) s stands knows a = re
 }
 
 -- the same records are out, where the pass owns the same ones
-pub out_same : (records : TwoRecords) (q q' : TreePass) (p p' : Purse) → q'.owned ≡ q.owned → p' ≡ p → HasOut q p records → HasOut q' p' records
+pub out_same : (records : TwoRecords) (q q' : TreePass) (p p' : Purse) → q'.owned ≡ q.owned → p' ≡ p → HasOut q p records
+    → HasOut q' p' records
 out_same records q q' p p' owned same out = subst (λ (x : Purse). HasOut q' x records) (sym same) (by records out)
   where
     by : (r : TwoRecords) → HasOut q p r → HasOut q' p r
@@ -182,11 +180,13 @@ missed_lost z share g s v u p p' head c start same from free k =
     }
 
 pub lost_shared : (z : Sizes) (share share' : ℕ) (g g' : TreeGoing) (s : Seek) (v w : TreeView) (p p' : Purse) (result : Turned)
-    → share' ≡ share → Part z share' (HasLost z share' g s v p) g g' v w p' result → Part z share (HasLost z share g s v p) g g' v w p' result
+    → share' ≡ share → Part z share' (HasLost z share' g s v p) g g' v w p' result → Part z share
+    (HasLost z share g s v p) g g' v w p' result
 lost_shared z share share' g g' s v w p p' result same e =
     subst (λ (n : ℕ). Part z n (HasLost z n g s v p) g g' v w p' result) same e
 
 pub missed_shared : (z : Sizes) (share share' : ℕ) (g g' : TreeGoing) (v w : TreeView) (p p' : Purse) (result : Turned)
-    → share' ≡ share → Part z share' (HasMissed z share' g v p) g g' v w p' result → Part z share (HasMissed z share g v p) g g' v w p' result
+    → share' ≡ share → Part z share' (HasMissed z share' g v p) g g' v w p' result → Part z share
+    (HasMissed z share g v p) g g' v w p' result
 missed_shared z share share' g g' v w p p' result same e =
     subst (λ (n : ℕ). Part z n (HasMissed z n g v p) g g' v w p' result) same e

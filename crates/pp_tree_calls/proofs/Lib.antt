@@ -8,3 +8,6 @@ pub mod Treading
 pub mod Seeking
 pub mod Landing
 pub mod Exchanged
+pub mod Taking
+pub mod Publishing
+pub mod Taken

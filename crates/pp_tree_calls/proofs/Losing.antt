@@ -1,35 +1,32 @@
 -- A turn of a call on a tree that was lost.
-use Rattle.std.proofs.Common.{◌≡◌, ◌≢◌, ℕ, ◌+◌, ◌<◌, ◌≤◌, ◌^◌, Bool, true, false, List, length, map, refl, sym, ap, ◌∙◌, subst, inl, inr, arith, Option, Some, None}
+use Rattle.std.proofs.Common.{◌≡◌, ℕ, ◌+◌, ◌<◌, ◌≤◌, ◌^◌, Bool, true, false, List, length, map, refl, sym, ap, ◌∙◌, subst}
+use Rattle.std.proofs.Common.{inl, inr, arith}
 use Rattle.std.proofs.lemmas.List.{length-map}
-use Rattle.std.proofs.Math.Bool.{false≢true}
 use Rattle.pp_link.specs.declared.layout.Sizes.{Sizes}
-use Rattle.pp_model.specs.declared.Answer.{Answer}
 use Rattle.pp_model.specs.declared.Answer.TheVariants.{Said, Lost}
 use Rattle.pp_model.specs.declared.Reply.TheVariants.{Took}
 use Rattle.pp_model.specs.declared.Turned.{Turned}
 use Rattle.pp_model.specs.declared.Turned.TheVariants.{On, Done}
-use Rattle.pp_rule.specs.declared.views.Chain.{Chain}
 use Rattle.pp_base.specs.declared.purse.InHand.{InHand}
 use Rattle.pp_base.specs.declared.purse.Purse.{Purse}
 use Rattle.pp_base.specs.Passes.{IsAtRest, in_hand_of}
 use Rattle.pp_calls.proofs.Growing.{stepped_none}
-use Rattle.pp_shelf.specs.Runs.{map_sizes, steps_made}
+use Rattle.pp_shelf.specs.Runs.{map_sizes}
 use Rattle.pp_seek.specs.declared.seek.Seek.{Seek}
 use Rattle.pp_seek.specs.Seeking.{Seeks as IsSeek}
 use Rattle.pp_trees.specs.Trees.{inf0}
 use Rattle.pp_model.specs.Calls.{key_of}
 use Rattle.pp_trees.specs.Searches.{TreePass}
 use Rattle.pp_trees.specs.Edges.{TreeView}
-use Rattle.pp_turns.specs.Tallies.{losing, effected, lost_of, memory_of}
-use Rattle.pp_turns.specs.Turns.{Since, SawLast}
+use Rattle.pp_turns.specs.Tallies.{losing, lost_of, memory_of}
+use Rattle.pp_turns.specs.Turns.{Since}
 use Rattle.pp_tree_turns.specs.Walked.{tree_reader, TreeTally}
 use Rattle.pp_tree_turns.specs.Turning.{Minds}
 use Rattle.pp_tree_calls.specs.declared.going.TreeGoing.{TreeGoing}
 use Rattle.pp_tree_calls.specs.declared.going.Next.{Next}
 use Rattle.pp_tree_calls.specs.declared.going.Next.TheVariants.{Seeks, Over}
-use Rattle.pp_tree_calls.specs.Purses.{TwoRecords, out_of}
-use Rattle.pp_tree_calls.specs.Going.{is_look, upper_at, spot_of, Begun, Tries, Goes, HasTaken, IsLosing, Carries, IsUnder}
-use Rattle.pp_tree_calls.specs.Answers.{SaysStruck, GivesUp, Ends, MayEnd, spends_of}
+use Rattle.pp_tree_calls.specs.Going.{is_look, upper_at, spot_of, Begun, Tries, Goes, HasTaken}
+use Rattle.pp_tree_calls.specs.Answers.{SaysStruck, Ends}
 use Rattle.pp_tree_calls.specs.Turned.{SameGoing, Part, HasLost}
 
 -- a pass has as many chains in hand as its purse knows
@@ -67,7 +64,8 @@ module _ (z : Sizes) (share : ℕ) (g : TreeGoing) (s : Seek) (v : TreeView) (p 
   )
 
   -- It goes on: its seek is on its way.
-  pub lost_goes : key_of g.call < inf0 → (is_look g.call ≡ true → g.struck ≡ false) → g.lost + 1 < g.races → IsAtRest v.known p → Goes g v.known
+  pub lost_goes : key_of g.call < inf0 → (is_look g.call ≡ true → g.struck ≡ false) → g.lost + 1 < g.races → IsAtRest v.known p
+      → Goes g v.known
       → s.call ≡ g.call → IsSeek v.known s → s.fresh ≡ false → upper_at s.spot ≤ 2 ^ 64
       → Part z share (HasLost z share g s v p) g (record g { lost = g.lost + 1; next = Seeks s }) v v p On
   lost_goes pair looks below rest goes asked seeks on_its_way high = record {
@@ -92,50 +90,52 @@ module _ (z : Sizes) (share : ℕ) (g : TreeGoing) (s : Seek) (v : TreeView) (p 
   pub lost_ends : (g' : TreeGoing) (w : TreeView) (p' : Purse) (result : Turned) → SameGoing g g' → g'.next ≡ Over → g.struck ≡ false
       → g.lost + 1 ≡ g.races → result ≡ Done (Lost (g.lost + 1))
       → Ends z share g.races g.call g.records (Lost (g.lost + 1)) v w p p' → Part z share (HasLost z share g s v p) g g' v w p' result
-  lost_ends g' w p' result same over none all is e = subst (λ (r : Turned). Part z share (HasLost z share g s v p) g g' v w p' r) (sym is) record {
-    stepped = e.aside.stepped;
-    stands = e.aside.stands;
-    same = same;
-    struck = same.struck ∙ none;
-    advances = tt;
-    high = ends_high g' over;
-    goes_on = tt;
-    answered = λ from free k stands. let u = k.tries.untaken none in
-        let lost : u.0.lost ≡ g.lost + 1 = sym (ap (λ (y : TreeTally). lost_of y) u.0.is) ∙ k.tries.counts.lost_is in
-        e.answered from free record {
-          by = record {
-            start = v.known.own.start;
-            memory = u.0.memory;
-            since = subst (λ (x : TreeTally). Since tree_reader (map_sizes z) g.call v.known.own.start x from v)
-                (u.0.is ∙ ap (losing u.0.memory) lost) k.tries.counts.since;
-            all = all;
-            unplaced = u.1;
-          };
-          last = k.last;
-          sizes = k.carries.sizes;
-          kept = let few = k.carries.kept in omega arith;
-          alone = k.carries.alone;
-        } stands;
-  }
+  lost_ends g' w p' result same over none all is e = subst (λ (r : Turned). Part z share (HasLost z share g s v p) g g' v w p' r)
+      (sym is) record {
+        stepped = e.aside.stepped;
+        stands = e.aside.stands;
+        same = same;
+        struck = same.struck ∙ none;
+        advances = tt;
+        high = ends_high g' over;
+        goes_on = tt;
+        answered = λ from free k stands. let u = k.tries.untaken none in
+            let lost : u.0.lost ≡ g.lost + 1 = sym (ap (λ (y : TreeTally). lost_of y) u.0.is) ∙ k.tries.counts.lost_is in
+            e.answered from free record {
+              by = record {
+                start = v.known.own.start;
+                memory = u.0.memory;
+                since = subst (λ (x : TreeTally). Since tree_reader (map_sizes z) g.call v.known.own.start x from v)
+                    (u.0.is ∙ ap (losing u.0.memory) lost) k.tries.counts.since;
+                all = all;
+                unplaced = u.1;
+              };
+              last = k.last;
+              sizes = k.carries.sizes;
+              kept = let few = k.carries.kept in omega arith;
+              alone = k.carries.alone;
+            } stands;
+      }
 
   -- It says what it took.
   pub lost_took : (g' : TreeGoing) (w : TreeView) (p' : Purse) (result : Turned) → SameGoing g g' → g'.next ≡ Over → g.struck ≡ true
       → g.lost + 1 ≡ g.races → result ≡ Done (Said (Took g.taken))
       → Ends z share g.races g.call g.records (Said (Took g.taken)) v w p p' → Part z share (HasLost z share g s v p) g g' v w p' result
-  lost_took g' w p' result same over took all is e = subst (λ (r : Turned). Part z share (HasLost z share g s v p) g g' v w p' r) (sym is) record {
-    stepped = e.aside.stepped;
-    stands = e.aside.stands;
-    same = same;
-    struck = same.struck ∙ took;
-    advances = tt;
-    high = ends_high g' over;
-    goes_on = tt;
-    answered = λ from free k stands. e.answered from free record {
-      by = says_took z g k.tries.counts.tally v.known.own.start from v k.tries.counts.since (k.tries.taken took)
-          (k.tries.counts.lost_is ∙ all);
-      last = k.last;
-      sizes = k.carries.sizes;
-      kept = let few = k.carries.kept in omega arith;
-      alone = k.carries.alone;
-    } stands;
-  }
+  lost_took g' w p' result same over took all is e = subst (λ (r : Turned). Part z share (HasLost z share g s v p) g g' v w p' r)
+      (sym is) record {
+        stepped = e.aside.stepped;
+        stands = e.aside.stands;
+        same = same;
+        struck = same.struck ∙ took;
+        advances = tt;
+        high = ends_high g' over;
+        goes_on = tt;
+        answered = λ from free k stands. e.answered from free record {
+          by = says_took z g k.tries.counts.tally v.known.own.start from v k.tries.counts.since (k.tries.taken took)
+              (k.tries.counts.lost_is ∙ all);
+          last = k.last;
+          sizes = k.carries.sizes;
+          kept = let few = k.carries.kept in omega arith;
+          alone = k.carries.alone;
+        } stands;
+      }

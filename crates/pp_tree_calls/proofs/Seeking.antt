@@ -1,48 +1,36 @@
 -- A turn of a call's seek.
-use Rattle.std.proofs.Common.{◌≡◌, ◌≢◌, ◌⊎◌, ℕ, ◌+◌, ◌-◌, ◌*◌, ◌<◌, ◌≤◌, ◌^◌, Bool, true, false, cond, List, [], ◌∷◌, ◌++◌, map, length, refl, sym, ap, ◌∙◌, subst, ⊎_elim, inl, inr}
-use Rattle.std.proofs.Common.{Option, Some, None, append_assoc, arith}
-use Rattle.std.specs.Prelude.{not, nat_lt}
+use Rattle.std.proofs.Common.{◌≡◌, ℕ, ◌+◌, ◌-◌, ◌<◌, ◌≤◌, ◌^◌, Bool, true, false, cond, List}
+use Rattle.std.proofs.Common.{length, refl, sym, ◌∙◌, subst, ⊎_elim}
+use Rattle.std.proofs.Common.{Option, Some, None, arith}
+use Rattle.std.specs.Prelude.{nat_lt}
 use Rattle.std.proofs.Math.Bool.{false≢true}
 use Rattle.pp_link.specs.declared.layout.Sizes.{Sizes}
-use Rattle.pp_link.specs.Links.{word_of}
 use Rattle.pp_model.specs.declared.Call.{Call}
-use Rattle.pp_model.specs.declared.Reply.{Reply}
-use Rattle.pp_model.specs.declared.Turned.{Turned}
-use Rattle.pp_model.specs.declared.Turned.TheVariants.{On, Done}
-use Rattle.pp_model.specs.declared.steps.Step.{Step}
-use Rattle.pp_model.specs.Calls.{key_of, changes, reply_at}
+use Rattle.pp_model.specs.declared.Turned.TheVariants.{On}
+use Rattle.pp_model.specs.Calls.{key_of}
 use Rattle.pp_model.specs.MapCalls.{WentOn, keys_narrowed}
-use Rattle.pp_rule.specs.declared.views.Halves.{Halves}
-use Rattle.pp_rule.specs.Orders.{log_of, read_step}
-use Rattle.pp_rule.specs.Views.{slot}
 use Rattle.pp_base.specs.declared.purse.Purse.{Purse}
-use Rattle.pp_base.specs.Named.{NamedStep, name_of}
-use Rattle.pp_base.specs.Passes.{IsAtRest}
-use Rattle.pp_calls.specs.Steps.{Stepped, HasOwn, StandsThen, WriteNone, SamePurse}
 use Rattle.pp_shelf.specs.Runs.{map_sizes, steps_made}
 use Rattle.pp_seek.specs.declared.seek.Seek.{Seek}
 use Rattle.pp_seek.specs.declared.seek.Spot.{Spot}
-use Rattle.pp_seek.specs.declared.seek.Sought.{Sought}
-use Rattle.pp_seek.specs.Trails.{Trail, SameCall, reads}
-use Rattle.pp_seek.specs.Seeking.{Seeks as IsSeek, SeeksAt, AtRecord, IsSought, Enters, ComesDown, Loses, FoundInvalid, FoundOther, FoundOutside, WasLost, EndsAtLeaf, WentOn as SeekWentOn}
-use Rattle.pp_trees.specs.Trees.{inf0, inf2, IsRight}
-use Rattle.pp_trees.specs.Searches.{TreePass}
-use Rattle.pp_trees.specs.Edges.{TreeView, end_step}
-use Rattle.pp_trees.specs.Seeks.{found_at}
-use Rattle.pp_turns.specs.Tallies.{losing, effected, lost_of, memory_of, later_of}
-use Rattle.pp_turns.specs.Turns.{Waits, Unplaced, SawLast, Replied}
-use Rattle.pp_turns.proofs.Placing.{unplaced_on, replied_on}
+use Rattle.pp_seek.specs.Trails.{Trail, SameCall}
+use Rattle.pp_seek.specs.Seeking.{Seeks as IsSeek, SeeksAt, Enters, ComesDown, Loses, FoundInvalid}
+use Rattle.pp_seek.specs.Seeking.{FoundOther, FoundOutside, WasLost, WentOn as SeekWentOn}
+use Rattle.pp_trees.specs.Trees.{inf0}
+use Rattle.pp_trees.specs.Edges.{TreeView}
+use Rattle.pp_turns.specs.Tallies.{memory_of}
 use Rattle.pp_turns.proofs.Stretches.{saw_last}
-use Rattle.pp_tree_turns.specs.Walked.{Walked, TreeTally, moved}
-use Rattle.pp_tree_turns.specs.Turning.{Minds, Names, Walks}
+use Rattle.pp_tree_turns.specs.Walked.{Walked}
+use Rattle.pp_tree_turns.specs.Turning.{Minds}
 use Rattle.pp_tree_turns.proofs.Seeks.{trail_names, enters_walks, further_walks, lost_walks}
 use Rattle.pp_tree_calls.specs.declared.going.TreeGoing.{TreeGoing}
 use Rattle.pp_tree_calls.specs.declared.going.Next.{Next}
 use Rattle.pp_tree_calls.specs.declared.going.Next.TheVariants.{Seeks}
-use Rattle.pp_tree_calls.specs.Going.{is_look, upper_at, lower_at, going_of, Begun, Tries, Goes, Stands, Carries, IsUnder}
+use Rattle.pp_tree_calls.specs.Going.{upper_at, lower_at, going_of, Begun, Tries, Goes, Stands, IsUnder}
 use Rattle.pp_tree_calls.specs.Turned.{HasLost, TreeTurned}
 use Rattle.pp_tree_calls.proofs.Lasting.{moved_memory, tries_on}
-use Rattle.pp_tree_calls.proofs.Treading.{some_named, carries_trail, trail_unplaced, rest_on, goes_same, first_tries, next_tries, both_calls}
+use Rattle.pp_tree_calls.proofs.Treading.{some_named, carries_trail, trail_unplaced, rest_on, first_tries, next_tries}
+use Rattle.pp_tree_calls.proofs.Treading.{both_calls}
 
 -- a turn that was lost made a step
 pub lost_some : (z : Sizes) (s : Spot) (v w : TreeView) → Loses z s v w → 0 < length (steps_made v w)
@@ -77,7 +65,8 @@ module _ (z : Sizes) (share : ℕ) (g : TreeGoing) (v w : TreeView) (p p' : Purs
       )
 
   -- or came down
-  came_down : (call : Call) (fresh : Bool) (s n : Spot) (next : Next) (from : TreeView) → fresh ≡ false → call ≡ g.call → ComesDown z s n v w
+  came_down : (call : Call) (fresh : Bool) (s n : Spot) (next : Next) (from : TreeView) → fresh ≡ false → call ≡ g.call
+      → ComesDown z s n v w
       → Begun fresh z g (Some s) from v → Trying next (Some n) from
   came_down call true s n next from is asked c b = absurd (false≢true (sym is))
   came_down call false s n next from is asked c b =
@@ -153,7 +142,8 @@ module _ (z : Sizes) (share : ℕ) (g : TreeGoing) (v w : TreeView) (p p' : Purs
         stays = λ on. on;
         strikes = λ off on. absurd (false≢true (sym off ∙ on));
         struck = tt;
-        went = subst (λ (n : Next). WentOn (going_of v.known (record g { next = n })) (going_of w.known (record g { next = Seeks s' }))) (sym at)
+        went = subst (λ (n : Next). WentOn (going_of v.known (record g { next = n }))
+            (going_of w.known (record g { next = Seeks s' }))) (sym at)
             (keys_narrowed refl refl o.narrows);
         goes_on = λ from free u. seek_under s s' was now call went at from free u;
         answered = tt;
@@ -164,7 +154,8 @@ module _ (z : Sizes) (share : ℕ) (g : TreeGoing) (v w : TreeView) (p p' : Purs
       → (from : TreeView) (free : List ℕ) → IsUnder z share g v p from free → HasLost z share g s' w p' from free
   seek_lost s s' was lost at from free u = by s.spot s.fresh was lost (subst (λ (n : Next). Stands z g n from v) at u.stands).1.2
     where
-      by : (spot : Option Spot) (fresh : Bool) → SeeksAt v.known s.call fresh spot → WasLost z spot s'.spot v w → Begun fresh z g spot from v
+      by : (spot : Option Spot) (fresh : Bool) → SeeksAt v.known s.call fresh spot → WasLost z spot s'.spot v w
+          → Begun fresh z g spot from v
           → HasLost z share g s' w p' from free
       by None fresh was lost b = absurd lost
       by (Some x) true was lost b = absurd (false≢true (sym was.begun))

@@ -1,56 +1,46 @@
 -- What the turns of a seek make of a going call.
-use Rattle.std.proofs.Common.{◌≡◌, ◌≢◌, ◌⊎◌, ℕ, zero, suc, ◌+◌, ◌-◌, ◌*◌, ◌<◌, ◌≤◌, ◌^◌, Bool, true, false, cond, List, [], ◌∷◌, ◌++◌, map, length, refl, sym, ap, ◌∙◌, subst, ⊎_elim, inl, inr}
-use Rattle.std.proofs.Common.{Option, Some, None, append_assoc, length-append, arith}
+use Rattle.std.proofs.Common.{◌≡◌, ℕ, zero, suc, ◌+◌, ◌<◌, ◌≤◌, true, false, List, [], ◌∷◌}
+use Rattle.std.proofs.Common.{map, length, refl, sym, ap, ◌∙◌, subst, ⊎_elim}
+use Rattle.std.proofs.Common.{Option, Some, None, length-append, arith}
 use Rattle.std.specs.Prelude.{not}
 use Rattle.std.proofs.Math.Bool.{false≢true}
 use Rattle.pp_link.specs.declared.layout.Sizes.{Sizes}
-use Rattle.pp_link.specs.Links.{word_of}
-use Rattle.pp_model.specs.declared.Answer.{Answer}
 use Rattle.pp_model.specs.declared.Call.{Call}
 use Rattle.pp_model.specs.declared.Reply.{Reply}
 use Rattle.pp_model.specs.declared.Turned.{Turned}
 use Rattle.pp_model.specs.declared.Turned.TheVariants.{On, Done}
 use Rattle.pp_model.specs.declared.steps.Step.{Step}
-use Rattle.pp_model.specs.Calls.{key_of, changes, reply_at}
-use Rattle.pp_model.specs.Pass.{MapSizes, seen_first}
-use Rattle.pp_model.specs.MapCalls.{AnswersCall, WentOn, turn_lost, keys_narrowed, next_kind, took_effect}
-use Rattle.pp_rule.specs.declared.views.Halves.{Halves}
-use Rattle.pp_rule.specs.Lists.{IsIn}
-use Rattle.pp_rule.specs.Orders.{log_of}
-use Rattle.pp_rule.specs.Views.{slot}
+use Rattle.pp_model.specs.Calls.{key_of}
+use Rattle.pp_model.specs.MapCalls.{AnswersCall, turn_lost, next_kind}
 use Rattle.pp_base.specs.declared.purse.Purse.{Purse}
-use Rattle.pp_base.specs.Named.{NamedStep, name_of, loads, announces}
+use Rattle.pp_base.specs.Named.{NamedStep, name_of}
 use Rattle.pp_base.specs.Passes.{IsAtRest}
 use Rattle.pp_calls.specs.PoolViews.{is_writing, pool_view}
 use Rattle.pp_tree_turns.specs.Causes.{tree_meaning}
-use Rattle.pp_calls.specs.Steps.{Stepped, HasOwn, StandsThen, WriteNone, SamePurse, Went}
+use Rattle.pp_calls.specs.Steps.{Stepped, HasOwn, StandsThen, WriteNone}
 use Rattle.pp_calls.proofs.Growing.{stepped_both}
 use Rattle.pp_shelf.specs.Runs.{map_sizes, steps_made}
-use Rattle.pp_seek.specs.declared.seek.Seek.{Seek}
 use Rattle.pp_seek.specs.declared.seek.Spot.{Spot}
-use Rattle.pp_seek.specs.declared.seek.Sought.{Sought}
-use Rattle.pp_seek.specs.Trails.{Trail, SameRest, SameCall, IsSilent, reads}
-use Rattle.pp_seek.specs.Seeking.{Seeks as IsSeek, SeeksAt, Enters, ComesDown, WasLost, EndsAtLeaf, width, WentOn as SeekWentOn}
-use Rattle.pp_trees.specs.Trees.{inf0, inf2, IsRight}
-use Rattle.pp_trees.specs.Searches.{TreePass}
+use Rattle.pp_seek.specs.Trails.{Trail, SameCall, IsSilent}
+use Rattle.pp_seek.specs.Seeking.{Enters}
+use Rattle.pp_trees.specs.Trees.{inf0}
 use Rattle.pp_trees.specs.Edges.{TreeView, end_step}
-use Rattle.pp_trees.specs.Seeks.{found_at}
-use Rattle.pp_turns.specs.Tallies.{losing, effected, lost_of, memory_of, later_of}
-use Rattle.pp_turns.specs.Turns.{Ran, Since, Waits, Unplaced, Struck, SawLast, Replied}
-use Rattle.pp_turns.proofs.Placing.{unplaced_on, unplaced_made, replied_on}
-use Rattle.pp_turns.proofs.Stretches.{since_first, saw_last, steps_both, stretch_both, stepped_steps, own_before}
-use Rattle.pp_tree_turns.specs.Walked.{Walked, fresh_walk, tree_reader, TreeTally, moved}
-use Rattle.pp_tree_turns.specs.Turning.{Minds, Names, Walks}
-use Rattle.pp_tree_turns.proofs.Seeks.{trail_names, enters_walks, further_walks, lost_walks}
-use Rattle.pp_tree_turns.proofs.Ends.{entered_start, four_steps, ending, ends_names, ends_walks, ends_replied, ends_effect, ends_again, ends_same}
+use Rattle.pp_turns.specs.Tallies.{losing, memory_of}
+use Rattle.pp_turns.specs.Turns.{Waits, Unplaced, Struck}
+use Rattle.pp_turns.proofs.Placing.{unplaced_on, unplaced_made}
+use Rattle.pp_turns.proofs.Stretches.{since_first, stretch_both, own_before}
+use Rattle.pp_tree_turns.specs.Walked.{fresh_walk, tree_reader}
+use Rattle.pp_tree_turns.specs.Turning.{Minds, Walks}
+use Rattle.pp_tree_turns.proofs.Seeks.{trail_names, enters_walks}
+use Rattle.pp_tree_turns.proofs.Ends.{entered_start}
 use Rattle.pp_tree_calls.specs.declared.going.TreeGoing.{TreeGoing}
 use Rattle.pp_tree_calls.specs.declared.going.Next.{Next}
-use Rattle.pp_tree_calls.specs.declared.going.Next.TheVariants.{Seeks, Over}
-use Rattle.pp_tree_calls.specs.Purses.{TwoRecords, HasOut}
-use Rattle.pp_tree_calls.specs.Going.{is_look, kind_of, going_of, upper_at, Begun, Counts, IsLosing, HasTaken, Tries, Goes, Stands, Carries, IsUnder}
-use Rattle.pp_tree_calls.specs.Turned.{Part, Advances, EndedAt, found_by, HasLost, HasMissed, HasArrived, HasEnded, TreeTurned, SameGoing}
+use Rattle.pp_tree_calls.specs.Purses.{TwoRecords}
+use Rattle.pp_tree_calls.specs.Going.{kind_of, Tries, Goes}
+use Rattle.pp_tree_calls.specs.Going.{Carries, IsUnder}
+use Rattle.pp_tree_calls.specs.Turned.{Part, TreeTurned}
 use Rattle.pp_tree_calls.proofs.Resting.{rest_kept, same_purse}
-use Rattle.pp_tree_calls.proofs.Lasting.{silent_none, counts_on, losing_on, taken_on, tries_on, carries_on, out_same, moved_memory}
+use Rattle.pp_tree_calls.proofs.Lasting.{silent_none, counts_on, tries_on, carries_on, out_same}
 
 -- steps with some names are some steps
 pub some_named : (n : NamedStep) (names : List NamedStep) (steps : List Step) → map name_of steps ≡ n ∷ names → 0 < length steps
@@ -58,7 +48,8 @@ some_named n names [] e = absurd cc
 some_named n names (s ∷ steps) e = omega arith
 
 pub some_after : (v u w : TreeView) → Stepped v u → Stepped u w → 0 < length (steps_made v u) → 0 < length (steps_made v w)
-some_after v u w a b some = let e = ap (λ (l : List Step). length l) (stretch_both v u w a b) ∙ length-append (steps_made v u) (steps_made u w) in omega arith
+some_after v u w a b some = let e = ap (λ (l : List Step). length l) (stretch_both v u w a b) ∙ length-append (steps_made v u)
+    (steps_made u w) in omega arith
 
 silent_kind : (k : ℕ) → IsSilent k → is_writing k ≡ false
 silent_kind k s = ⊎_elim (λ (lt : (2 ≤ k) × (k < 9)). low k lt.0 lt.1) (λ (e : k ≡ end_step). ap is_writing e) s
@@ -92,8 +83,7 @@ trail_unplaced v w a = unplaced_made a.steps v w a.did
 pub turned_by : (z : Sizes) (share : ℕ) (g h g' : TreeGoing) (v u w : TreeView) (p p' : Purse) (result : Turned)
     (Known : TreeView → List ℕ → Type 0) → h.call ≡ g.call → h.races ≡ g.races → h.lost ≡ g.lost → kind_of h.next ≡ kind_of g.next
     → (g.struck ≡ true → h.struck ≡ true)
-    → (g.struck ≡ false → h.struck ≡ true → (said : Reply) × ((w : TreeView) → Stepped u w → Part z share Known h g' u w p' result
-    → Struck g.call said v w))
+    → (g.struck ≡ false → h.struck ≡ true → (said : Reply) × Struck g.call said v w)
     → Stepped v u → 0 < length (steps_made v u) → (HasOwn u.order → StandsThen v → StandsThen u)
     → ((from : TreeView) (free : List ℕ) → IsUnder z share g v p from free → Known from free)
     → Part z share Known h g' u w p' result → TreeTurned z share g g' v w p p' result
@@ -105,7 +95,7 @@ turned_by z share g h g' v u w p p' On Known call races lost kind stays strikes 
   races = a.same.races ∙ races;
   high = a.high;
   stays = λ on. a.same.struck ∙ stays on;
-  strikes = λ off on. let r = strikes off (sym a.same.struck ∙ on) in (r.0, r.1 w a.stepped a);
+  strikes = λ off on. strikes off (sym a.same.struck ∙ on);
   struck = tt;
   went = ⊎_elim (λ (l : (g'.lost ≡ h.lost + 1) × (g'.lost < g'.races)). turn_lost (l.0 ∙ ap (λ (n : ℕ). n + 1) lost) l.1)
       (λ (k : (g'.lost ≡ h.lost) × (kind_of h.next < kind_of g'.next)). next_kind (k.0 ∙ lost)
@@ -121,12 +111,13 @@ turned_by z share g h g' v u w p p' (Done answer) Known call races lost kind sta
   races = a.same.races ∙ races;
   high = a.high;
   stays = λ on. a.same.struck ∙ stays on;
-  strikes = λ off on. let r = strikes off (sym a.same.struck ∙ on) in (r.0, r.1 w a.stepped a);
+  strikes = λ off on. strikes off (sym a.same.struck ∙ on);
   struck = a.struck;
   went = tt;
   goes_on = tt;
   answered = λ from free k st. subst (λ (c : Call). AnswersCall tree_meaning (map_sizes z) c g.races (pool_view from free share)
-      (pool_view w p'.free.items share) answer) call (subst (λ (n : ℕ). AnswersCall tree_meaning (map_sizes z) h.call n (pool_view from free share)
+      (pool_view w p'.free.items share) answer) call (subst (λ (n : ℕ). AnswersCall tree_meaning (map_sizes z) h.call n
+      (pool_view from free share)
       (pool_view w p'.free.items share) answer) races (a.answered from free (knows from free k) st));
 }
 
@@ -136,7 +127,8 @@ pub turned_same : (z : Sizes) (share : ℕ) (g g' : TreeGoing) (v u w : TreeView
     → ((from : TreeView) (free : List ℕ) → IsUnder z share g v p from free → Known from free)
     → Part z share Known g g' u w p' result → TreeTurned z share g g' v w p p' result
 turned_same z share g g' v u w p p' result Known s some stands knows a =
-    turned_by z share g g g' v u w p p' result Known refl refl refl refl (λ on. on) (λ off on. absurd (false≢true (sym off ∙ on))) s some stands knows a
+    turned_by z share g g g' v u w p p' result Known refl refl refl refl (λ on. on)
+    (λ off on. absurd (false≢true (sym off ∙ on))) s some stands knows a
 
 module _ (z : Sizes) (share : ℕ) (g : TreeGoing) (v w : TreeView) (p p' : Purse) (same : p' ≡ p) where
   pub rest_on : Trail v w → IsAtRest v.known p → IsAtRest w.known p'
@@ -146,7 +138,8 @@ module _ (z : Sizes) (share : ℕ) (g : TreeGoing) (v w : TreeView) (p p' : Purs
   goes_same s k = record { call = s.call ∙ k.call; going = s.going ∙ k.going }
 
   -- the first turn of a call
-  abbrev pub first_tries : (call : Call) (n : Spot) (next : Next) (spot : Option Spot) (from : TreeView) → call ≡ g.call → Enters z call true n v w
+  abbrev pub first_tries : (call : Call) (n : Spot) (next : Next) (spot : Option Spot) (from : TreeView) → call ≡ g.call
+      → Enters z call true n v w
       → key_of g.call < inf0
       → Waits from v × (Unplaced from v × ((g.lost ≡ 0) × ((g.struck ≡ false) × (spot ≡ None))))
       → (t : Tries (map_sizes z) (record g { next = next }) g.lost from w)
@@ -183,7 +176,8 @@ module _ (z : Sizes) (share : ℕ) (g : TreeGoing) (v w : TreeView) (p p' : Purs
       )
 
   -- a call goes on trying, with another next turn
-  abbrev pub next_tries : (next : Next) (from : TreeView) (t : Tries (map_sizes z) g g.lost from v) → Walks (map_sizes z) g.call t.counts.tally 0 v w
+  abbrev pub next_tries : (next : Next) (from : TreeView) (t : Tries (map_sizes z) g g.lost from v) → Walks
+      (map_sizes z) g.call t.counts.tally 0 v w
       → Unplaced v w → w.known.own.start ≡ v.known.own.start → Tries (map_sizes z) (record g { next = next }) g.lost from w
   next_tries next from t a none start = let zero : g.lost ≡ g.lost + 0 = omega arith in
       let on = tries_on (map_sizes z) g g.lost g.lost 0 from v w t a zero none start in record {

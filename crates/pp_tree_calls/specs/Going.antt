@@ -1,12 +1,12 @@
 -- A call on a tree that is going on, by the views of its pass.
-use Rattle.std.specs.Prelude.{◌≡◌, ◌≢◌, ◌⊎◌, ℕ, ◌+◌, ◌^◌, ◌<◌, ◌≤◌, Bool, true, false, not, List, [], Option, Some, None}
+use Rattle.std.specs.Prelude.{◌≡◌, ◌≢◌, ◌⊎◌, ℕ, ◌^◌, ◌<◌, ◌≤◌, Bool, true, false, not, List, Option, Some, None}
 use Rattle.pp_link.specs.declared.layout.Sizes.{Sizes}
 use Rattle.pp_model.specs.declared.Call.{Call}
 use Rattle.pp_model.specs.declared.Call.TheVariants.{Get, Insert, Remove, Cut}
 use Rattle.pp_model.specs.declared.Reply.TheVariants.{Took}
 use Rattle.pp_model.specs.declared.steps.Step.{Step}
 use Rattle.pp_model.specs.Calls.{key_of}
-use Rattle.pp_model.specs.Pass.{PassView, GoingView, MapSizes}
+use Rattle.pp_model.specs.Pass.{GoingView, MapSizes}
 use Rattle.pp_model.specs.MapCalls.{LeftAlone}
 use Rattle.pp_rule.specs.Orders.{log_of}
 use Rattle.pp_base.specs.declared.purse.Purse.{Purse}
@@ -15,9 +15,7 @@ use Rattle.pp_base.specs.Passes.{IsAtRest}
 use Rattle.pp_base.specs.Sources.{side_number}
 use Rattle.pp_calls.specs.PoolViews.{pool_view}
 use Rattle.pp_shelf.specs.Runs.{map_sizes, steps_made}
-use Rattle.pp_seek.specs.declared.seek.Seek.{Seek}
 use Rattle.pp_seek.specs.declared.seek.Spot.{Spot}
-use Rattle.pp_seek.specs.declared.seek.Sought.{Sought}
 use Rattle.pp_seek.specs.Seeking.{Seeks as IsSeek}
 use Rattle.pp_trees.specs.Trees.{across, inf0}
 use Rattle.pp_trees.specs.Searches.{TreePass}

@@ -1,4 +1,5 @@
 pub mod Purses
 pub mod Going
+pub mod Begun
 pub mod Answers
 pub mod Turned

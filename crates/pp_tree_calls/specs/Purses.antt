@@ -1,11 +1,16 @@
 -- What a call on a tree has of its purse, and what its parts make of it.
-use Rattle.std.specs.Prelude.{◌≡◌, ◌≢◌, ℕ, ◌+◌, ◌<◌, ◌≤◌, List, length, Option, Some, None}
+use Rattle.std.specs.Prelude.{◌≡◌, ◌≢◌, ◌⊎◌, ℕ, ◌+◌, ◌≤◌, min, List, length, Option, Some, None}
 use Rattle.pp_link.specs.declared.layout.Sizes.{Sizes}
 use Rattle.pp_pool.specs.declared.fresh.Fresh.{Fresh}
 use Rattle.pp_pool.specs.Taken.{IsPrivate}
+use Rattle.pp_rule.specs.Causes.{FoundTaken}
+use Rattle.pp_rule.specs.Lists.{BeginsWith}
 use Rattle.pp_base.specs.declared.purse.Purse.{Purse}
+use Rattle.pp_base.specs.Named.{NamedStep}
 use Rattle.pp_calls.specs.Steps.{SamePurse}
-use Rattle.pp_purse.specs.Purses.{TidiesPurse}
+use Rattle.pp_shelf.specs.Runs.{map_sizes, steps_made}
+use Rattle.pp_purse.specs.Purses.{TidiesPurse, RanOut}
+use Rattle.pp_purse.specs.Steps.{PurseSteps}
 use Rattle.pp_seek.specs.Trails.{Clears}
 use Rattle.pp_trees.specs.Searches.{TreePass}
 use Rattle.pp_trees.specs.Edges.{TreeView}
@@ -46,3 +51,31 @@ pub record TidiesUp (z : Sizes) (share : ℕ) (records : TwoRecords) (v w : Tree
   pub last : Purse
   pub tidies : TidiesPurse z share between w middle last
   pub free : p'.free ≡ last.free
+
+-- A call that had its two records out already, or none, has these two out. Of the free ones but for them none is gone.
+pub record TakesTwo (z : Sizes) (had : TwoRecords) (f : Fresh × Fresh) (v w : TreeView) (p p' : Purse) : Type 0 where
+  pub names : List NamedStep
+  pub steps : PurseSteps z names v w
+  pub out : HasOut w.known p' (Some f)
+  pub kept : length p.free.items + out_of had ≤ length p'.free.items + 2
+
+-- It had none out, and found too few. None that was free is gone.
+pub record TakesNone (z : Sizes) (had : TwoRecords) (v w : TreeView) (p p' : Purse) : Type 0 where
+  pub none : had ≡ None
+  pub names : List NamedStep
+  pub steps : PurseSteps z names v w
+  pub ran_out : RanOut z 2 v w p p'
+  pub begins : BeginsWith p'.free.items p.free.items
+  pub taken : p'.taken ≡ 0
+
+-- A call cleared its walk words, and put on shelves what is free beyond its share, or found each shelf word taken. The free numbers of
+-- its share are still there.
+pub record PutsAway (z : Sizes) (share : ℕ) (v w : TreeView) (p p' : Purse) : Type 0 where
+  pub between : TreeView
+  pub clears : Clears v between
+  pub names : List NamedStep
+  pub steps : PurseSteps z names between w
+  pub retired_are : w.known.retired ≡ v.known.retired
+  pub shared : (length p'.free.items ≤ share) ⊎ FoundTaken (map_sizes z) (steps_made between w)
+  pub begins : BeginsWith p.free.items p'.free.items
+  pub kept : min share (length p.free.items) ≤ length p'.free.items

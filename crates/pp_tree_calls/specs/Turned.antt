@@ -1,17 +1,15 @@
 -- What a part of a turn makes of a call that is going on a tree.
-use Rattle.std.specs.Prelude.{◌≡◌, ◌≢◌, ◌⊎◌, ℕ, ◌+◌, ◌^◌, ◌<◌, ◌≤◌, Bool, true, false, not, List, ◌∷◌, ◌++◌, length, [], None, Option}
+use Rattle.std.specs.Prelude.{◌≡◌, ◌⊎◌, ℕ, ◌+◌, ◌^◌, ◌<◌, ◌≤◌, true, false, List, ◌∷◌, ◌++◌, length, None, Option}
 use Rattle.pp_link.specs.declared.layout.Sizes.{Sizes}
-use Rattle.pp_link.specs.Links.{word_of, target, flag_bit}
-use Rattle.pp_model.specs.declared.Answer.{Answer}
+use Rattle.pp_link.specs.Links.{word_of}
 use Rattle.pp_model.specs.declared.Call.{Call}
 use Rattle.pp_model.specs.declared.Reply.{Reply}
 use Rattle.pp_model.specs.declared.Turned.{Turned}
 use Rattle.pp_model.specs.declared.steps.Step.{Step}
 use Rattle.pp_model.specs.Calls.{key_of, changes, reply_at}
-use Rattle.pp_model.specs.Pass.{MapSizes}
 use Rattle.pp_model.specs.MapCalls.{AnswersCall, IfOn, IfDone, WentOn, took_effect}
 use Rattle.pp_rule.specs.Orders.{log_of, read_step}
-use Rattle.pp_rule.specs.Views.{slot, value_of}
+use Rattle.pp_rule.specs.Views.{slot}
 use Rattle.pp_base.specs.declared.purse.Purse.{Purse}
 use Rattle.pp_base.specs.Passes.{IsAtRest}
 use Rattle.pp_calls.specs.PoolViews.{pool_view}
@@ -19,7 +17,7 @@ use Rattle.pp_calls.specs.Steps.{Stepped, HasOwn, StandsThen, WriteNone}
 use Rattle.pp_shelf.specs.Runs.{map_sizes, steps_made}
 use Rattle.pp_seek.specs.declared.seek.Seek.{Seek}
 use Rattle.pp_seek.specs.declared.seek.Sought.{Sought}
-use Rattle.pp_seek.specs.Seeking.{Seeks as IsSeek, IsSought}
+use Rattle.pp_seek.specs.Seeking.{IsSought}
 use Rattle.pp_trees.specs.Trees.{IsRight, inf0}
 use Rattle.pp_trees.specs.Searches.{TreePass}
 use Rattle.pp_trees.specs.Edges.{TreeView, end_step}
@@ -30,7 +28,8 @@ use Rattle.pp_tree_turns.specs.Turning.{Minds, Walks}
 use Rattle.pp_tree_turns.specs.Walked.{TreeTally}
 use Rattle.pp_tree_turns.specs.Causes.{tree_meaning}
 use Rattle.pp_tree_calls.specs.declared.going.TreeGoing.{TreeGoing}
-use Rattle.pp_tree_calls.specs.Going.{kind_of, spot_of, going_of, upper_at, is_look, Counts, IsLosing, HasTaken, Tries, Goes, Carries, IsUnder}
+use Rattle.pp_tree_calls.specs.Going.{kind_of, spot_of, going_of, upper_at, is_look, Counts, IsLosing, HasTaken, Tries}
+use Rattle.pp_tree_calls.specs.Going.{Carries, IsUnder}
 use Rattle.pp_tree_calls.specs.Purses.{HasOut}
 
 -- it is the same call, with the same budget

@@ -4,7 +4,7 @@ ghost use Rattle.std.specs.Prelude.{◌≡◌, true, None};
 ghost use Rattle.pp_base.specs.Passes.{known, view, Fits, IsSame, IsAtRest};
 ghost use Rattle.pp_turns.specs.Passes.{IsResting};
 ghost use Rattle.pp_tree_calls.specs.Answers.{Leaves};
-ghost use Rattle.pp_tree_calls.specs.Purses.{HasOut, GaveBackOut, LooksAway, TidiesUp};
+ghost use Rattle.pp_tree_calls.specs.Purses.{HasOut, GaveBackOut, LooksAway, TidiesUp, PutsAway};
 
 use pp_base::{Pass, Pool};
 use pp_edges::TreeShape;
@@ -63,7 +63,8 @@ pub fn end_change(
     requires rest { IsAtRest (known pass.old.seat) pass.old.purse }
     requires out { HasOut (known pass.old.seat) pass.old.purse records }
     ensures same { IsSame pass.old.seat pass.new.seat }
-    ensures tidies { TidiesUp pool.now.layout pass.old.share records (view pass.old.seat) (view pass.new.seat) pass.old.purse pass.new.purse }
+    ensures tidies { TidiesUp pool.now.layout pass.old.share records (view pass.old.seat) (view pass.new.seat)
+        pass.old.purse pass.new.purse }
     ensures resting { IsResting pass.new }
 {
     Seek::again(call).done(pool, pass);
@@ -93,4 +94,18 @@ pub fn finish(
         return end_look(pool, pass, call);
     }
     end_change(pool, pass, call, records);
+}
+
+/// Ends an insert that found too few records: its walk words are cleared, and what is free beyond the share goes to the shelves.
+pub fn end_full(pool: &Pool<TreeShape>, pass: &mut Pass<TreeShape>, call: Call)
+    requires fits { Fits pool.now.table.shared.table_id pool.now.layout pass.old.seat }
+    requires rest { IsAtRest (known pass.old.seat) pass.old.purse }
+    requires none { pass.old.purse.taken ≡ 0 }
+    ensures same { IsSame pass.old.seat pass.new.seat }
+    ensures puts { PutsAway pool.now.layout pass.old.share (view pass.old.seat) (view pass.new.seat) pass.old.purse pass.new.purse }
+    ensures resting { IsResting pass.new }
+{
+    Seek::again(call).done(pool, pass);
+    pp_shelf::tidy(pool, pass);
+    set_going(pass, false);
 }

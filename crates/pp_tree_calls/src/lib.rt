@@ -1,9 +1,11 @@
 //! A tree over a pool, and its calls turn by turn.
 #![tactic(auto)]
 
+pub mod calls;
 pub mod ending;
 pub mod going;
 pub mod parts;
+pub mod records;
 pub mod stored;
 pub mod turns;
 

@@ -79,8 +79,8 @@ pub fn lose(
     requires seek { (seek.call ≡ going.old.call) × (IsSeek (known pass.old.seat) seek × (seek.fresh ≡ false)) }
     requires high { upper_at seek.spot ≤ 2 ^ 64 }
     ensures same { IsSame pass.old.seat pass.new.seat }
-    ensures part { Part pool.now.layout pass.old.share (HasLost pool.now.layout pass.old.share going.old seek (view pass.old.seat) pass.old.purse)
-        going.old going.new (view pass.old.seat) (view pass.new.seat) pass.new.purse result }
+    ensures part { Part pool.now.layout pass.old.share (HasLost pool.now.layout pass.old.share going.old seek (view pass.old.seat)
+        pass.old.purse) going.old going.new (view pass.old.seat) (view pass.new.seat) pass.new.purse result }
     ensures resting { IfDone result (λ _. IsResting pass.new) }
 {
     going.lost += 1;
@@ -111,8 +111,8 @@ pub fn lose_again(
     requires below { going.old.lost < going.old.races }
     requires goes { Goes going.old (known pass.old.seat) }
     ensures same { IsSame pass.old.seat pass.new.seat }
-    ensures part { Part pool.now.layout pass.old.share (HasMissed pool.now.layout pass.old.share going.old (view pass.old.seat) pass.old.purse)
-        going.old going.new (view pass.old.seat) (view pass.new.seat) pass.new.purse result }
+    ensures part { Part pool.now.layout pass.old.share (HasMissed pool.now.layout pass.old.share going.old (view pass.old.seat)
+        pass.old.purse) going.old going.new (view pass.old.seat) (view pass.new.seat) pass.new.purse result }
     ensures resting { IfDone result (λ _. IsResting pass.new) }
 {
     let seek = Seek::again(going.call);

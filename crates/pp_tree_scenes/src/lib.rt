@@ -1,7 +1,15 @@
-//! A pool of a tree is opened and closed.
+//! Worked scenes over a tree: its calls turn by turn, with what no single clause says, run once each.
 #![tactic(auto)]
 
 #[cfg(test)]
+mod helpers;
+#[cfg(test)]
+mod paths;
+#[cfg(test)]
+mod readers;
+#[cfg(test)]
+mod smallest;
+#[cfg(test)]
 mod staging;
 #[cfg(test)]
-mod tests;
+mod stopped;

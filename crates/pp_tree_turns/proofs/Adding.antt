@@ -1,5 +1,6 @@
 -- The exchange of an insert, after its records were written.
-use Rattle.std.proofs.Common.{◌≡◌, ◌≢◌, ◌⊎◌, ℕ, zero, suc, ◌+◌, ◌*◌, ◌%◌, ◌<◌, ◌≤◌, Bool, true, false, List, [], ◌∷◌, ◌++◌, length, refl, sym, ap, ◌∙◌, subst}
+use Rattle.std.proofs.Common.{◌≡◌, ◌≢◌, ◌⊎◌, ℕ, zero, suc, ◌+◌, ◌*◌, ◌%◌, ◌<◌, ◌≤◌, Bool, true, false, List, [], ◌∷◌, ◌++◌}
+use Rattle.std.proofs.Common.{length, refl, sym, ap, ◌∙◌, subst}
 use Rattle.std.proofs.Common.{⊎_elim, inl, inr, arith, append_assoc, append-nil}
 use mathlib.Core.Option.{some, some-injective, some-ne-none}
 use lib.ListN.{get_elem?}
@@ -20,7 +21,9 @@ use Rattle.pp_rule.proofs.Put.{in_cases, in_either}
 use Rattle.pp_base.specs.declared.source.Place.{Place}
 use Rattle.pp_base.specs.declared.source.Place.TheVariants.{Walk}
 use Rattle.pp_base.specs.Named.{NamedStep, misses}
-use Rattle.pp_base.specs.Passes.{IsPassOf}
+use Rattle.pp_base.specs.declared.purse.Purse.{Purse}
+use Rattle.pp_base.specs.Passes.{IsPassOf, IsAtRest}
+use Rattle.pp_pool.specs.Taken.{one_fewer_out}
 use Rattle.pp_base.specs.Sources.{side_number, source_place, IsReadable}
 use Rattle.pp_edges.specs.Edging.{MayPublishAt, PublishedBy, Adds, Missed}
 use Rattle.pp_edges.specs.declared.edges.Published.{Published}
@@ -33,7 +36,8 @@ use Rattle.pp_trees.specs.Edges.{TreeView, publish_step}
 use Rattle.pp_turns.specs.Turns.{Unplaced, Struck}
 use Rattle.pp_turns.proofs.Placing.{unplaced_on, struck_at, struck_on}
 use Rattle.pp_tree_turns.specs.Turning.{Names}
-use Rattle.pp_tree_turns.specs.Filling.{Has, OwnsAlike, Wrote, Filled, FilledOver, PublishesNext, AreBefore, Publishes, NotPublished, PublishedTo}
+use Rattle.pp_tree_turns.specs.Filling.{Has, OwnsAlike, Wrote, Filled, FilledOver, PublishesNext, AreBefore, Publishes}
+use Rattle.pp_tree_turns.specs.Filling.{NotPublished, PublishedTo}
 use Rattle.pp_tree_turns.proofs.Seeks.{step_names, names_both, names_as}
 use Rattle.pp_tree_turns.proofs.Exchanges.{quiet_names, quiet_unplaced, parent_place, walk_far}
 use Rattle.pp_tree_turns.proofs.Written.{wrote_both}
@@ -170,3 +174,24 @@ module _ (z : Sizes) (s : Sought) (k value m c here read : ℕ) (v v1 v2 v3 w : 
 pub number_small : (z : Sizes) (q : TreePass) (n : ℕ) (d : PrivateRecord) → IsPassOf z q → Has q n d → n < 4294967296
 number_small z q n d pass h = let number = pass.owned d (h.index, h.at) in let most = number.1 in let few = pass.within.records in
     let e = h.number_is in omega arith
+
+-- A pass at rest is so after its records were written, and after the exchange.
+pub rest_alike : (q q' : TreePass) (p : Purse) → OwnsAlike q q' → IsAtRest q p → IsAtRest q' p
+rest_alike q q' p alike r = subst (λ (x : TreePass). IsAtRest x p) (sym alike.is) record {
+  scan = r.scan;
+  spent = r.spent;
+  frontier = r.frontier;
+}
+
+pub rest_published : (m c place first : ℕ) (v w : TreeView) (p p' : Purse) (r : Published) → PublishedBy m c place first v w r
+    → (r ≡ published.Done → p' ≡ one_fewer_out (one_fewer_out p)) → ((r ≡ published.Done → ⊥) → p' ≡ p)
+    → IsAtRest v.known p → IsAtRest w.known p'
+rest_published m c place first v w p p' published.Done a spent kept r = subst (λ (x : Purse). IsAtRest w.known x) (sym (spent refl))
+    (subst (λ (q : TreePass). IsAtRest q (one_fewer_out (one_fewer_out p))) (sym (known_after _ _ _ _ _ _ _ v w a.made)) record {
+      scan = r.scan;
+      spent = r.spent;
+      frontier = r.frontier;
+    })
+rest_published m c place first v w p p' (published.Changed leaf inner found) a spent kept r =
+    subst (λ (x : Purse). IsAtRest w.known x) (sym (kept (λ is. absurd cc)))
+    (subst (λ (q : TreePass). IsAtRest q p) (sym (known_after _ _ _ _ _ _ _ v w a.2.made)) r)

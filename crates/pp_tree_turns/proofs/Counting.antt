@@ -1,5 +1,6 @@
 -- What the turns after a seek count.
-use Rattle.std.proofs.Common.{◌≡◌, ◌≢◌, ◌⊎◌, ℕ, ◌+◌, ◌*◌, ◌<◌, ◌≤◌, Bool, true, false, cond, List, [], ◌∷◌, ◌++◌, map, length, refl, sym, ap, ◌∙◌}
+use Rattle.std.proofs.Common.{◌≡◌, ◌≢◌, ◌⊎◌, ℕ, ◌+◌, ◌*◌, ◌<◌, ◌≤◌, Bool, true, false, cond, List, [], ◌∷◌, ◌++◌, map, length}
+use Rattle.std.proofs.Common.{refl, sym, ap, ◌∙◌}
 use Rattle.std.proofs.Common.{subst, ⊎_elim, inl, inr, arith, ne_eqb, eq-eqb, lt-ltb, append-nil, append_assoc}
 use Rattle.std.specs.Prelude.{◌||◌, ◌&&◌, nat_eq, nat_lt, nat_le, not}
 use Rattle.std.proofs.Math.Bool.{false≢true}
@@ -22,12 +23,14 @@ use Rattle.pp_trees.specs.Edges.{TreeView, publish_step, flag_step, tag_step}
 use Rattle.pp_turns.specs.Tallies.{losing, effected, memory_of, counting, tally}
 use Rattle.pp_turns.specs.Turns.{Ran}
 use Rattle.pp_turns.proofs.Tallies.{tally_append, tally_one, tally_later}
-use Rattle.pp_tree_turns.specs.Walked.{Walked, after_key, tree_next, tree_loses, tree_strikes, tree_reader, walked, one_if, lost_by, TreeTally, moved}
+use Rattle.pp_tree_turns.specs.Walked.{Walked, after_key, tree_next, tree_loses, tree_strikes, tree_reader, walked, one_if}
+use Rattle.pp_tree_turns.specs.Walked.{lost_by, TreeTally, moved}
 use Rattle.pp_tree_turns.specs.Causes.{flagged_leaf, ReadsValueOf, EndedElsewhere}
 use Rattle.pp_tree_turns.specs.Turning.{Names, Walks}
 use Rattle.pp_tree_turns.specs.Exchanging.{MissesEdge, flags, FlagsLeaf, tags, TagsEdge, AreAside, MissesPath, TakesPath}
 use Rattle.pp_tree_turns.specs.Filling.{AreBefore, Publishes, NotPublished}
-use Rattle.pp_tree_turns.proofs.Reading.{AreQuiet, tally_named, IsIdleKind, idle, idle_loses, idle_next, idle_strikes, aside_next, aside_loses, aside_strikes}
+use Rattle.pp_tree_turns.proofs.Reading.{AreQuiet, tally_named, IsIdleKind, idle, idle_loses, idle_next, idle_strikes, aside_next}
+use Rattle.pp_tree_turns.proofs.Reading.{aside_loses, aside_strikes}
 use Rattle.pp_tree_turns.proofs.Seeks.{names_ran}
 use Rattle.pp_tree_turns.proofs.Ends.{quiet_nil, quiet_more}
 
@@ -242,7 +245,8 @@ module _ (z : Sizes) (call : Call) where
       → tree_next (map_sizes z) call m (name_of x) ≡ m'
       → counting tree_reader (map_sizes z) call (losing m n) x ≡ effected m' n n []
   at_effect m m' n x strikes loses next = let same : n + 0 ≡ n = omega arith in
-      ap (λ (b : Bool). cond b (effected (tree_next (map_sizes z) call m (name_of x)) (n + cond (tree_loses (map_sizes z) m (name_of x)) 1 0) n [])
+      ap (λ (b : Bool). cond b (effected (tree_next (map_sizes z) call m (name_of x))
+      (n + cond (tree_loses (map_sizes z) m (name_of x)) 1 0) n [])
       (losing (tree_next (map_sizes z) call m (name_of x)) (n + cond (tree_loses (map_sizes z) m (name_of x)) 1 0))) strikes
       ∙ (ap (λ (b : Bool). effected (tree_next (map_sizes z) call m (name_of x)) (n + cond b 1 0) n []) loses
       ∙ (ap (λ (k : ℕ). effected (tree_next (map_sizes z) call m (name_of x)) k n []) same
@@ -289,7 +293,8 @@ module _ (z : Sizes) (call : Call) where
 
   -- loads of keys and values
   pub two_reads : (m : Walked) (a b : ℕ) (x y : ℕ) → m.coming ≡ false → CountsNone z call m (reads a x ∷ reads b y ∷ [])
-  two_reads m a b x y calm = more_counted z call m (reads a x) (reads b y ∷ []) (read_next z call m a x calm) (read_loses z call m a x calm) refl
+  two_reads m a b x y calm = more_counted z call m (reads a x) (reads b y ∷ []) (read_next z call m a x calm)
+      (read_loses z call m a x calm) refl
       (more_counted z call m (reads b y) [] (read_next z call m b y calm) (read_loses z call m b y calm) refl (none_counted z call m))
 
   abbrev pub struck_walk : Walked → Walked
@@ -306,7 +311,8 @@ module _ (z : Sizes) (call : Call) where
   -- an insert takes effect
   pub publish_strikes : (m : Walked) (n : ℕ) (k value : ℕ) (v w : TreeView) → m.coming ≡ false → (f : Publishes k value v w)
       → TakesEffect (map_sizes z) call m (struck_walk m) n (record { kind = publish_step; place = f.place; word = f.word }) [] v w
-  publish_strikes m n k value v w calm f = strikes_ran m (struck_walk m) n f.before (record { kind = publish_step; place = f.place; word = f.word })
+  publish_strikes m n k value v w calm f = strikes_ran m (struck_walk m) n f.before
+      (record { kind = publish_step; place = f.place; word = f.word })
       [] v w f.names (before_counted z call m f.before calm f.aside) refl refl refl (none_counted z call (struck_walk m))
 
 -- The leaf whose pair was taken, by the steps.
@@ -331,8 +337,10 @@ flagged_losing z call m m' n n' (x ∷ xs) ys e = by (tree_strikes (name_of x)) 
         → (tally tree_reader z call (losing (tree_next z call m (name_of x)) (n + cond (tree_loses z m (name_of x)) 1 0)) xs ≡ losing m' n'
         → flagged_leaf (xs ++ ys) ≡ flagged_leaf ys)
         → cond (nat_eq x.kind flag_step) (target x.word) (flagged_leaf (xs ++ ys)) ≡ flagged_leaf ys
-    by true is f again = absurd (let g = tally_later tree_reader z call (tree_next z call m (name_of x)) (n + cond (tree_loses z m (name_of x)) 1 0) n [] xs in cc)
-    by false is f again = ap (λ (b : Bool). cond b (target x.word) (flagged_leaf (xs ++ ys))) (nat_bool (tree_strikes (name_of x)) x.kind refl is)
+    by true is f again = absurd (let g = tally_later tree_reader z call (tree_next z call m (name_of x))
+        (n + cond (tree_loses z m (name_of x)) 1 0) n [] xs in cc)
+    by false is f again = ap (λ (b : Bool). cond b (target x.word) (flagged_leaf (xs ++ ys)))
+        (nat_bool (tree_strikes (name_of x)) x.kind refl is)
         ∙ again f
 
 pub flagged_here : (x : Step) (steps : List Step) → x.kind ≡ flag_step → flagged_leaf (x ∷ steps) ≡ target x.word

@@ -1,5 +1,6 @@
 -- What the turn counts and tells at which a seek ends.
-use Rattle.std.proofs.Common.{◌≡◌, ◌≢◌, ◌⊎◌, ℕ, ◌+◌, ◌*◌, ◌<◌, ◌≤◌, Bool, true, false, cond, List, [], ◌∷◌, ◌++◌, map, length, refl, sym, ap, ◌∙◌}
+use Rattle.std.proofs.Common.{◌≡◌, ◌≢◌, ◌⊎◌, ℕ, ◌+◌, ◌*◌, ◌<◌, ◌≤◌, Bool, true, false, cond, List, [], ◌∷◌, ◌++◌, map, length}
+use Rattle.std.proofs.Common.{refl, sym, ap, ◌∙◌}
 use Rattle.std.proofs.Common.{subst, ⊎_elim, inl, inr, arith, ne_eqb, eq-eqb, Option, Some, None, append-nil}
 use Rattle.std.specs.Prelude.{◌||◌, ◌&&◌, nat_eq, nat_lt, nat_le, not}
 use Rattle.pp_link.specs.declared.layout.Sizes.{Sizes}
@@ -85,7 +86,8 @@ unfolding stepped_one
 entered_start z call s v w e = let b = e.begins refl in let one = stepped_one v e.first b.made refl in
     let known = ap (λ (u : TreeView). u.known) b.made.is in
     let on = trail_names e.first w e.onward in
-    ap (seen_first 0) (stretch_both v e.first w one on.stepped ∙ ap (λ (l : List Step). l ++ steps_made e.first w) (stepped_steps v e.first one))
+    ap (seen_first 0) (stretch_both v e.first w one on.stepped ∙ ap (λ (l : List Step). l ++ steps_made e.first w)
+    (stepped_steps v e.first one))
     ∙ (ap (λ (q : TreePass). q.own.start) (sym known) ∙ sym e.same.start)
 
 -- the loads of the edge to the leaf

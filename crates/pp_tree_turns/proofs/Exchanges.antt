@@ -1,6 +1,7 @@
 -- What the turns after a seek make of a pass.
 use Rattle.std.specs.Prelude.{◌&&◌}
-use Rattle.std.proofs.Common.{◌≡◌, ◌≢◌, ◌⊎◌, ℕ, zero, suc, ◌+◌, ◌*◌, ◌^◌, ◌/◌, ◌%◌, ◌<◌, ◌≤◌, Bool, true, false, cond, List, [], ◌∷◌, ◌++◌, length, bit_or}
+use Rattle.std.proofs.Common.{◌≡◌, ◌≢◌, ◌⊎◌, ℕ, zero, suc, ◌+◌, ◌*◌, ◌^◌, ◌/◌, ◌%◌, ◌<◌, ◌≤◌, Bool, true, false, cond, List, []}
+use Rattle.std.proofs.Common.{◌∷◌, ◌++◌, length, bit_or}
 use Rattle.std.proofs.Common.{refl, sym, ap, ◌∙◌, subst, ⊎_elim, inl, inr, arith, append-nil, append_assoc, map}
 use Rattle.std.proofs.Math.ListN.{length-map}
 use Rattle.std.specs.Prelude.{◌||◌, nat_eq}
@@ -63,7 +64,8 @@ use Rattle.pp_turns.specs.Turns.{Unplaced, Struck}
 use Rattle.pp_turns.proofs.Placing.{struck_at, struck_later, unplaced_on, unplaced_made}
 use Rattle.pp_turns.proofs.Stretches.{steps_named}
 use Rattle.pp_tree_turns.specs.Turning.{Names}
-use Rattle.pp_tree_turns.specs.Exchanging.{OnPath, FlagsNext, TagsNext, SplicesNext, MissesEdge, flags, FlagsLeaf, tags, TagsEdge, AreAside, MissesPath, TakesPath}
+use Rattle.pp_tree_turns.specs.Exchanging.{OnPath, FlagsNext, TagsNext, SplicesNext, MissesEdge, flags, FlagsLeaf, tags, TagsEdge}
+use Rattle.pp_tree_turns.specs.Exchanging.{AreAside, MissesPath, TakesPath}
 use Rattle.pp_tree_turns.proofs.Seeks.{step_names, names_both}
 
 -- a step at which nothing took effect and no call was placed
@@ -116,7 +118,8 @@ flags_leaf z s place value v b w may r read value_is = record {
       (begins_through (view w).order (view read.middle).order (view b).order
       (order_begins _ _ _ _ _ _ _ (view read.middle) (view w) read.second.made)
       (order_begins _ _ _ _ _ _ _ (view b) (view read.middle) read.first.made))
-      struck_here (unplaced_on (view b) (view read.middle) (view w) middle_number (quiet_unplaced (view b) (view read.middle) read.first.made refl)
+      struck_here (unplaced_on (view b) (view read.middle) (view w) middle_number
+      (quiet_unplaced (view b) (view read.middle) read.first.made refl)
       (quiet_unplaced (view read.middle) (view w) read.second.made refl));
 }
   where
@@ -353,7 +356,8 @@ misses_path z at from first new found v w few far m = let f = flush_names z v m.
       unplaced = unplaced_on v m.between w (made_names f.0 v m.between f.1.made).stepped.number (unplaced_made f.0 v m.between f.1.made)
           (unplaced_made then m.between w m.steps);
       own = ap (λ (q : TreePass). q.own) m.known ∙ (learning_at_own at from found m.between.known ∙ own);
-      owned = ap (λ (q : TreePass). q.owned) m.known ∙ (learning_at_owned at from found m.between.known ∙ flush_owned z v m.between few m.flushed);
+      owned = ap (λ (q : TreePass). q.owned) m.known ∙ (learning_at_owned at from found m.between.known
+          ∙ flush_owned z v m.between few m.flushed);
     }
   where
     then : List NamedStep

@@ -17,7 +17,8 @@ use Rattle.pp_purse.specs.Steps.{is_purse_step}
 use Rattle.pp_turns.specs.Tallies.{losing, effected, memory_of, counting, tally}
 use Rattle.pp_turns.specs.Causes.{is_aside, PassesOver}
 use Rattle.pp_turns.proofs.Tallies.{tally_none}
-use Rattle.pp_tree_turns.specs.Walked.{Walked, after_load, after_key, tree_next, tree_loses, tree_strikes, tree_reader, walked, one_if, lost_by, TreeTally, moved}
+use Rattle.pp_tree_turns.specs.Walked.{Walked, after_load, after_key, tree_next, tree_loses, tree_strikes, tree_reader, walked}
+use Rattle.pp_tree_turns.specs.Walked.{one_if, lost_by, TreeTally, moved}
 
 either : (a b : Bool) → a || b ≡ true → (a ≡ true) ⊎ (b ≡ true)
 either true b e = inl refl

@@ -33,7 +33,8 @@ use Rattle.pp_trees.specs.Edges.{TreeView, end_step}
 use Rattle.pp_turns.specs.Tallies.{memory_of}
 use Rattle.pp_turns.specs.Turns.{Ran}
 use Rattle.pp_turns.proofs.Stretches.{steps_named, stepped_steps, stretch_both}
-use Rattle.pp_tree_turns.specs.Walked.{Walked, unbounded, after_load, tree_next, tree_loses, tree_strikes, tree_reader, walked, one_if, lost_by}
+use Rattle.pp_tree_turns.specs.Walked.{Walked, unbounded, after_load, tree_next, tree_loses, tree_strikes, tree_reader, walked}
+use Rattle.pp_tree_turns.specs.Walked.{one_if, lost_by}
 use Rattle.pp_tree_turns.specs.Walked.{TreeTally, moved}
 use Rattle.pp_tree_turns.specs.Turning.{Minds, Names, Walks}
 use Rattle.pp_tree_turns.proofs.Reading.{IsIdleKind, AreQuiet, tally_named, idle, idle_loses, idle_next}
@@ -176,7 +177,8 @@ module _ (z : Sizes) (call : Call) (m : Walked) (place w : ℕ) (far : head_plac
       high = cond (nat_lt (key_of call) key) key m.high;
     }
 
-    down_walked : (read key : ℕ) → walked (map_sizes z) call m (loads place w ∷ announces at number ∷ confirms place w ∷ reads read key ∷ [])
+    down_walked : (read key : ℕ) → walked (map_sizes z) call m
+        (loads place w ∷ announces at number ∷ confirms place w ∷ reads read key ∷ [])
         ≡ went key
     unfolding walked
     down_walked read key = load_walked (announces at number ∷ confirms place w ∷ reads read key ∷ []) (went key)
@@ -207,21 +209,26 @@ module _ (z : Sizes) (call : Call) (m : Walked) (place w : ℕ) (far : head_plac
         same : 0 + (one_if (not (nat_eq second w)) + 0) ≡ 1
         same = ap (λ (b : Bool). 0 + (one_if (not b) + 0)) (ne_eqb second w other)
 
-        by : (n : ℕ) → kind ≡ n → lost_by (map_sizes z) call loaded (announces at number ∷ record { kind = n; place = place; word = second } ∷ []) ≡ 1
+        by : (n : ℕ) → kind ≡ n → lost_by (map_sizes z) call loaded
+            (announces at number ∷ record { kind = n; place = place; word = second } ∷ []) ≡ 1
             → lost_by (map_sizes z) call loaded (announces at number ∷ record { kind = kind; place = place; word = second } ∷ []) ≡ 1
-        by n e h = subst (λ (x : ℕ). lost_by (map_sizes z) call loaded (announces at number ∷ record { kind = x; place = place; word = second } ∷ []) ≡ 1)
+        by n e h = subst (λ (x : ℕ). lost_by (map_sizes z) call loaded
+            (announces at number ∷ record { kind = x; place = place; word = second } ∷ []) ≡ 1)
             (sym e) h
 
     other_walked : (kind second : ℕ) → IsSecond kind → second ≢ w
         → walked (map_sizes z) call m (loads place w ∷ announces at number ∷ record { kind = kind; place = place; word = second } ∷ []) ≡ loaded
     unfolding walked
-    other_walked kind second which other = load_walked (announces at number ∷ record { kind = kind; place = place; word = second } ∷ []) loaded
+    other_walked kind second which other = load_walked
+        (announces at number ∷ record { kind = kind; place = place; word = second } ∷ []) loaded
         (⊎_elim (λ (e : kind ≡ confirm_step). by confirm_step e (ap (λ (b : Bool). record loaded { coming = b }) (ne_eqb second w other)))
         (λ (e : kind ≡ end_step). by end_step e refl) which)
       where
-        by : (n : ℕ) → kind ≡ n → walked (map_sizes z) call loaded (announces at number ∷ record { kind = n; place = place; word = second } ∷ []) ≡ loaded
+        by : (n : ℕ) → kind ≡ n → walked (map_sizes z) call loaded
+            (announces at number ∷ record { kind = n; place = place; word = second } ∷ []) ≡ loaded
             → walked (map_sizes z) call loaded (announces at number ∷ record { kind = kind; place = place; word = second } ∷ []) ≡ loaded
-        by n e h = subst (λ (x : ℕ). walked (map_sizes z) call loaded (announces at number ∷ record { kind = x; place = place; word = second } ∷ []) ≡ loaded)
+        by n e h = subst (λ (x : ℕ). walked (map_sizes z) call loaded
+            (announces at number ∷ record { kind = x; place = place; word = second } ∷ []) ≡ loaded)
             (sym e) h
 
 -- whether a key lies within the bounds
@@ -279,7 +286,8 @@ module _ (z : Sizes) (call : Call) where
           (eq-eqb h h refl) ∙ ap at_root (lt-ltb (key_of call) s.key less)
 
       lost : lost_by (map_sizes z) call m names ≡ 0
-      lost = ap (λ (b : Bool). 0 + lost_by (map_sizes z) call (at_head b) (announces e.announced 1 ∷ confirms h 16 ∷ reads e.read s.key ∷ []))
+      lost = ap (λ (b : Bool). 0 + lost_by (map_sizes z) call (at_head b)
+          (announces e.announced 1 ∷ confirms h 16 ∷ reads e.read s.key ∷ []))
           (eq-eqb h h refl)
           ∙ ap (λ (b : Bool). 0 + (0 + (0 + (one_if b + 0))))
           (within_bounds 0 unbounded s.key (omega arith) (let root = e.root in omega arith))
@@ -321,7 +329,8 @@ module _ (z : Sizes) (call : Call) where
       (⊎_elim (λ (f : FoundInvalid z l.trail.steps). (
         record {
           memory = record m { word = f.word; coming = false };
-          ran = front_ran (map_sizes z) call t (loads f.place f.word ∷ []) (record m { word = f.word; coming = false }) 1 v w l.trail f.front
+          ran = front_ran (map_sizes z) call t (loads f.place f.word ∷ [])
+              (record m { word = f.word; coming = false }) 1 v w l.trail f.front
               (load_walked z call m f.place f.word f.far [] (record m { word = f.word; coming = false }) (none_walked _))
               (invalid_lost z call m f.place f.word f.far f.bad);
           calm = refl;

@@ -1,5 +1,6 @@
 -- What the records of an insert hold.
-use Rattle.std.proofs.Common.{◌≡◌, ◌≢◌, ◌⊎◌, ℕ, ◌+◌, ◌*◌, ◌/◌, ◌%◌, ◌^◌, ◌<◌, ◌≤◌, Bool, true, false, List, [], ◌∷◌, ◌++◌, map, length, set, refl, sym, ap, ◌∙◌, subst}
+use Rattle.std.proofs.Common.{◌≡◌, ◌≢◌, ◌⊎◌, ℕ, ◌+◌, ◌*◌, ◌/◌, ◌%◌, ◌^◌, ◌<◌, ◌≤◌, Bool, true, false, List, [], ◌∷◌, ◌++◌, map}
+use Rattle.std.proofs.Common.{length, set, refl, sym, ap, ◌∙◌, subst}
 use Rattle.std.proofs.Common.{⊎_elim, inl, inr, arith}
 use mathlib.Core.Option.{some, some-injective}
 use lib.ListN.{get_elem?}
@@ -93,7 +94,8 @@ module _ (n f x place : ℕ) (v w : TreeView) (o : WroteField n f x place v w) w
     }
 
 -- the records that are owned have their numbers still
-once_wrote : (n f x place : ℕ) (v w : TreeView) → WroteField n f x place v w → OnceBy number_of v.known.owned → OnceBy number_of w.known.owned
+once_wrote : (n f x place : ℕ) (v w : TreeView) → WroteField n f x place v w → OnceBy number_of v.known.owned
+    → OnceBy number_of w.known.owned
 once_wrote n f x place v w o once i j a b at_i at_j same = let p = origin i a at_i in let r = origin j b at_j in
     once i j p.0 r.0 p.1.0 r.1.0 (p.1.1 ∙ (same ∙ sym r.1.1))
   where
@@ -102,7 +104,8 @@ once_wrote n f x place v w o once i j a b at_i at_j same = let p = origin i a at
     origin i a at = ⊎_elim
         (λ (here : (i ≡ o.index) × (wrote f x o.was ≡ a)). (o.was, (ap (get_elem? v.known.owned) here.0 ∙ o.at, ap number_of here.1)))
         (λ (there : (i ≢ o.index) × (get_elem? v.known.owned i ≡ some a)). (a, (there.1, refl)))
-        (at_set v.known.owned o.index i (wrote f x o.was) a (ap (λ (l : List PrivateRecord). get_elem? l i) (sym (owned_is n f x place v w o)) ∙ at))
+        (at_set v.known.owned o.index i (wrote f x o.was) a (ap (λ (l : List PrivateRecord). get_elem? l i)
+        (sym (owned_is n f x place v w o)) ∙ at))
 
 -- all five words of a record
 pub filled : (n key low high left right pk pl ph pa pb : ℕ) (v a b c d w : TreeView) → WroteField n 0 key pk v a → WroteField n 1 low pl a b

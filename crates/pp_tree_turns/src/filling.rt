@@ -2,7 +2,7 @@
 
 ghost use Rattle.std.specs.Prelude.{◌≡◌, ◌≢◌, ◌<◌, ℕ};
 ghost use Rattle.pp_link.specs.Links.{word_of};
-ghost use Rattle.pp_base.specs.Passes.{known, view, owned_numbers, Fits, IsSame};
+ghost use Rattle.pp_base.specs.Passes.{known, view, owned_numbers, Fits, IsSame, IsAtRest};
 ghost use Rattle.pp_edges.specs.declared.edges.Published.TheVariants as published;
 ghost use Rattle.pp_pool.specs.Taken.{IsPrivate, one_fewer_out};
 ghost use Rattle.pp_tree_turns.specs.Filling.{Filled, FilledOver, PublishesNext, PublishedTo};
@@ -71,6 +71,7 @@ pub fn publish_turn(
     inner: Fresh,
 ) -> Published
     requires fits { Fits pool.now.table.shared.table_id pool.now.layout pass.old.seat }
+    requires rest { IsAtRest (known pass.old.seat) pass.old.purse }
     requires leaf { IsPrivate (known pass.old.seat) pass.old.purse leaf.number }
     requires inner { IsPrivate (known pass.old.seat) pass.old.purse inner.number }
     requires apart { leaf.number ≢ inner.number }
@@ -78,6 +79,7 @@ pub fn publish_turn(
     ensures same { IsSame pass.old.seat pass.new.seat }
     ensures published { PublishedTo pool.now.layout leaf.number inner.number key value result
         (view pass.old.seat) (view pass.new.seat) }
+    ensures rest { IsAtRest (known pass.new.seat) pass.new.purse }
     ensures spent { result ≡ published.Done → pass.new.purse ≡ one_fewer_out (one_fewer_out pass.old.purse) }
     ensures kept { (result ≡ published.Done → ⊥) → pass.new.purse ≡ pass.old.purse }
 {

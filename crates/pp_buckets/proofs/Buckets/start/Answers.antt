@@ -1,12 +1,11 @@
 use Rattle.std.proofs.Common.{sym, ◌∙◌}
-use Rattle.pp_ends.proofs.Opening.{fresh}
-use Rattle.pp_buckets.proofs.Starting.{starts_standing}
+use Rattle.pp_ends.proofs.Opening.{fresh, starts_standing}
 use Rattle.pp_buckets.proofs.Buckets.start.Goals as goal
 
 pub returns-clause-belong : goal.returns-clause-belong
 returns-clause-belong c = λ k p at. let n = c.in_ok-pool.ensures.passes k p at in record {
   fits = record { table_is = n.fits.table_is; sizes = n.fits.sizes ∙ sym c.in_ok-pool.ensures.sizes };
-  stands = starts_standing p.seat _ k n.knows;
+  stands = starts_standing _ _ p.seat _ k n.knows;
 }
 
 pub returns-clause-fresh : goal.returns-clause-fresh

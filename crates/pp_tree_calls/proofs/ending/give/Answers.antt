@@ -1,7 +1,7 @@
-use Rattle.std.proofs.Common.{◌≡◌, Some, Option, sym, ap, ◌∙◌, subst, refl}
+use Rattle.std.proofs.Common.{sym, ap, ◌∙◌, subst}
 use Rattle.pp_base.specs.Passes.{known, IsAtRest}
-use Rattle.pp_tree_calls.specs.Purses.{HasOut, GaveBackOut}
-use Rattle.pp_tree_calls.proofs.Resting.{second_private, gave_both}
+use Rattle.pp_tree_calls.specs.Purses.{HasOut}
+use Rattle.pp_tree_calls.proofs.Resting.{second_private}
 use Rattle.pp_tree_calls.proofs.ending.give.Goals as goal
 
 pub give_back-requires-in-Some : goal.give_back-requires-in-Some

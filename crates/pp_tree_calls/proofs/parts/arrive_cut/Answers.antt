@@ -1,40 +1,48 @@
-use Rattle.std.proofs.Common.{◌≡◌, ℕ, Some, None, refl, sym, ap, ◌∙◌, inl, inr, subst, Option}
-use Rattle.std.specs.Prelude.{nat_eq}
+use Rattle.std.proofs.Common.{Some, refl, sym, ap, ◌∙◌}
 use Rattle.pp_link.specs.Links.{bit}
 use Rattle.pp_model.specs.declared.Answer.TheVariants.{Said}
-use Rattle.pp_model.specs.declared.Reply.TheVariants.{Value, Absent, Added, Held, Took, Other}
-use Rattle.pp_model.specs.Calls.{key_of, changes, reply_at}
+use Rattle.pp_model.specs.declared.Reply.TheVariants.{Absent, Other}
+use Rattle.pp_model.specs.Calls.{reply_at}
 use Rattle.pp_rule.specs.Views.{slot, value_of}
 use Rattle.pp_base.specs.Passes.{known, view}
 use Rattle.pp_calls.proofs.Purses.{same_share}
-use Rattle.pp_tree_calls.specs.Going.{is_look}
-use Rattle.pp_tree_calls.specs.Turned.{found_by, HasEnded, HasArrived}
+use Rattle.pp_tree_calls.specs.Turned.{found_by, HasArrived}
 use Rattle.pp_tree_calls.proofs.Lasting.{part_after}
-use Rattle.pp_tree_calls.proofs.Arriving.{arrived_says, arrived_idle, part_as, found_other, found_flag, found_value, flag_of, cut_absent, cut_other, cut_takes, ends_as}
+use Rattle.pp_tree_calls.proofs.Arriving.{arrived_says, arrived_idle, part_as, found_other, found_flag, found_value, flag_of}
+use Rattle.pp_tree_calls.proofs.Arriving.{cut_absent, cut_other, cut_takes, ends_as}
 use Rattle.pp_tree_calls.proofs.parts.arrive_cut.Goals as goal
 
 pub returns-then-not-sought-clause-part : goal.returns-then-not-sought-clause-part
-returns-then-not-sought-clause-part c = let old = c.args.pass.now in let g = c.args.going.now in let s = c.args.sought in let r = c.requires in
+returns-then-not-sought-clause-part c = let old = c.args.pass.now in let g = c.args.going.now in let s = c.args.sought in
+    let r = c.requires in
     let q = known old.seat in let e = c.end in let new = e.new.pass in
     arrived_says c.args.pool.now.layout old.share g s (view old.seat) old.purse (view new.seat) e.new.going new.purse e.result Absent
-    e.ensures.over r.unstruck r.ready.below (cut_absent g.call r.cuts.0 c.args.wanted (found_by g s q) r.cuts.1 (found_other g s q r.ready.sought c.if-not-sought.true)) refl e.ensures.done e.ensures.ended
+    e.ensures.over r.unstruck r.ready.below (cut_absent g.call r.cuts.0 c.args.wanted (found_by g s q) r.cuts.1
+    (found_other g s q r.ready.sought c.if-not-sought.true)) refl e.ensures.done e.ensures.ended
 
 pub returns-then-flag-clause-part : goal.returns-then-flag-clause-part
 returns-then-flag-clause-part c = let old = c.args.pass.now in let g = c.args.going.now in let s = c.args.sought in let r = c.requires in
     let q = known old.seat in let e = c.end-then-flag in let new = e.new.pass in
     arrived_says c.args.pool.now.layout old.share g s (view old.seat) old.purse (view new.seat) e.new.going new.purse e.result Absent
-    e.ensures.over r.unstruck r.ready.below (cut_absent g.call r.cuts.0 c.args.wanted (found_by g s q) r.cuts.1 (found_flag g s q (flag_of s.edge ∙ ap bit (sym c.flag.ensures ∙ c.if-flag.true)))) refl e.ensures.done e.ensures.ended
+    e.ensures.over r.unstruck r.ready.below (cut_absent g.call r.cuts.0 c.args.wanted (found_by g s q) r.cuts.1
+    (found_flag g s q (flag_of s.edge ∙ ap bit (sym c.flag.ensures ∙ c.if-flag.true)))) refl e.ensures.done e.ensures.ended
 
 pub returns-then-value-wanted-clause-part : goal.returns-then-value-wanted-clause-part
-returns-then-value-wanted-clause-part c = let old = c.args.pass.now in let g = c.args.going.now in let s = c.args.sought in let r = c.requires in
+returns-then-value-wanted-clause-part c = let old = c.args.pass.now in let g = c.args.going.now in let s = c.args.sought in
+    let r = c.requires in
     let z = c.args.pool.now.layout in let q = known old.seat in let x = c.stored-value in let mid = x.new.pass in
     let e = c.end-then-value-wanted in let new = e.new.pass in
-    part_after z old.share (HasArrived z old.share g s (view old.seat) old.purse) (HasArrived z old.share g s (view mid.seat) old.purse) g e.new.going
+    part_after z old.share (HasArrived z old.share g s (view old.seat) old.purse)
+    (HasArrived z old.share g s (view mid.seat) old.purse) g e.new.going
     (view old.seat) (view mid.seat) (view new.seat) new.purse e.result x.ensures.idles.stepped x.ensures.idles.stands
     (arrived_idle z old.share g s (view old.seat) (view mid.seat) old.purse x.ensures.idles)
     (arrived_says z old.share g s (view mid.seat) old.purse (view new.seat) e.new.going new.purse e.result (Other x.result)
-    e.ensures.over r.unstruck r.ready.below (ap (λ p. reply_at g.call (found_by g s p)) x.ensures.idles.known ∙ cut_other g.call r.cuts.0 c.args.wanted (found_by g s q) x.result r.cuts.1 (found_value g s q r.ready.sought c.if-not-sought.false (flag_of s.edge ∙ ap bit (sym c.flag.ensures ∙ c.if-flag.false)) ∙ ap (λ n. Some n) (sym x.ensures.value)) (λ same. c.if-value-wanted.true same)) refl e.ensures.done
-    (ends_as z old.share mid.share g.races g.call g.records (Said (Other x.result)) (view mid.seat) (view new.seat) old.purse mid.purse new.purse
+    e.ensures.over r.unstruck r.ready.below (ap (λ p. reply_at g.call (found_by g s p)) x.ensures.idles.known
+    ∙ cut_other g.call r.cuts.0 c.args.wanted (found_by g s q) x.result r.cuts.1
+    (found_value g s q r.ready.sought c.if-not-sought.false (flag_of s.edge ∙ ap bit (sym c.flag.ensures ∙ c.if-flag.false))
+    ∙ ap (λ n. Some n) (sym x.ensures.value)) (λ same. c.if-value-wanted.true same)) refl e.ensures.done
+    (ends_as z old.share mid.share g.races g.call g.records (Said (Other x.result)) (view mid.seat)
+    (view new.seat) old.purse mid.purse new.purse
     (same_share 5 2 old.seat mid.seat _ _ _ _ _ _ _ _ old.keeping mid.keeping x.ensures.same) x.ensures.purse e.ensures.ended))
 
 pub open_removal-requires-clause-takes : goal.open_removal-requires-clause-takes
@@ -46,7 +54,8 @@ pub returns-clause-part : goal.returns-clause-part
 returns-clause-part c = let old = c.args.pass.now in let g = c.args.going.now in let s = c.args.sought in
     let z = c.args.pool.now.layout in let x = c.stored-value in let mid = x.new.pass in
     let e = c.open_removal in let new = e.new.pass in
-    part_after z old.share (HasArrived z old.share g s (view old.seat) old.purse) (HasArrived z old.share g s (view mid.seat) old.purse) g e.new.going
+    part_after z old.share (HasArrived z old.share g s (view old.seat) old.purse)
+    (HasArrived z old.share g s (view mid.seat) old.purse) g e.new.going
     (view old.seat) (view mid.seat) (view new.seat) new.purse e.result x.ensures.idles.stepped x.ensures.idles.stands
     (arrived_idle z old.share g s (view old.seat) (view mid.seat) old.purse x.ensures.idles)
     (part_as z old.share mid.share g e.new.going s (view mid.seat) (view new.seat) old.purse mid.purse new.purse e.result

@@ -1,15 +1,6 @@
-use Rattle.std.proofs.Common.{◌≡◌, ℕ, Some, None, refl, sym, ap, ◌∙◌, inl, inr, subst, Option}
-use Rattle.std.specs.Prelude.{nat_eq}
+use Rattle.std.proofs.Common.{sym, ap, ◌∙◌}
 use Rattle.pp_link.specs.Links.{bit}
-use Rattle.pp_model.specs.declared.Answer.TheVariants.{Said}
-use Rattle.pp_model.specs.declared.Reply.TheVariants.{Value, Absent, Added, Held, Took, Other}
-use Rattle.pp_model.specs.Calls.{key_of, changes, reply_at}
-use Rattle.pp_rule.specs.Views.{slot, value_of}
-use Rattle.pp_base.specs.Passes.{known, view}
-use Rattle.pp_calls.proofs.Purses.{same_share}
-use Rattle.pp_tree_calls.specs.Going.{is_look}
-use Rattle.pp_tree_calls.specs.Turned.{found_by, HasEnded, HasArrived}
-use Rattle.pp_tree_calls.proofs.Lasting.{part_after}
+use Rattle.pp_base.specs.Passes.{view}
 use Rattle.pp_tree_calls.proofs.Arriving.{opens_tag, opens_flag, tag_of}
 use Rattle.pp_tree_calls.proofs.parts.open_removal.Goals as goal
 

@@ -1,38 +1,36 @@
-use Rattle.std.proofs.Common.{◌≡◌, ℕ, true, false, refl, sym, ap, ◌∙◌, subst}
-use Rattle.pp_link.specs.Links.{word_of}
-use Rattle.pp_model.specs.declared.Answer.TheVariants.{Said}
+use Rattle.std.proofs.Common.{subst}
 use Rattle.pp_model.specs.declared.Call.{Call}
-use Rattle.pp_model.specs.declared.Reply.TheVariants.{Took}
-use Rattle.pp_model.specs.MapCalls.{WentOn}
-use Rattle.pp_base.specs.Passes.{known, view}
+use Rattle.pp_base.specs.Passes.{view}
 use Rattle.pp_calls.proofs.Purses.{same_share}
 use Rattle.pp_shelf.specs.Runs.{steps_made}
 use Rattle.pp_tree_turns.specs.Exchanging.{FlagsLeaf}
 use Rattle.pp_tree_calls.specs.declared.going.Next.{Next}
-use Rattle.pp_tree_calls.specs.declared.going.Next.TheVariants.{Splices}
-use Rattle.pp_tree_calls.specs.Answers.{MayEnd}
-use Rattle.pp_tree_calls.specs.Going.{Stands, kind_of, going_of}
-use Rattle.pp_tree_calls.specs.Turned.{Part, HasMissed, TreeTurned}
+use Rattle.pp_tree_calls.specs.Going.{Stands}
+use Rattle.pp_tree_calls.specs.Turned.{HasMissed}
 use Rattle.pp_tree_calls.proofs.Lasting.{missed_shared}
-use Rattle.pp_tree_calls.proofs.Arriving.{ends_as}
-use Rattle.pp_tree_calls.proofs.Resting.{rest_kept}
 use Rattle.pp_tree_calls.proofs.Treading.{some_named, turned_same}
-use Rattle.pp_tree_calls.proofs.Exchanged.{some_in, flag_missed, flag_turned, tag_missed, tag_goes, comes_to, splice_missed, splice_lost, splice_may, end_part}
+use Rattle.pp_tree_calls.proofs.Exchanged.{flag_missed, flag_turned}
 use Rattle.pp_tree_calls.proofs.turns.flag_on.Goals as goal
 
 pub returns-in-Some-clause-turned : goal.returns-in-Some-clause-turned
 returns-in-Some-clause-turned c = let z = c.args.pool.now.layout in let old = c.args.pass.now in let mid = c.flag_turn.new.pass in
     let g = c.args.going.now in
     let k = subst (λ (n : Next). Stands z g n c.requires.under.0 (view old.seat)) c.requires.at c.requires.under.1.1.stands in
-    flag_turned z old.share g c.args.sought (view old.seat) (view mid.seat) old.purse c.in-Some.value c.other.result c.other.ensures mid.purse
-    c.flag_turn.ensures.purse c.requires.at (subst (λ (x : Call). FlagsLeaf z x c.args.sought c.in-Some.value (view old.seat) (view mid.seat))
+    flag_turned z old.share g c.args.sought (view old.seat) (view mid.seat) old.purse c.in-Some.value c.other.result
+    c.other.ensures mid.purse
+    c.flag_turn.ensures.purse c.requires.at (subst (λ (x : Call). FlagsLeaf z x c.args.sought c.in-Some.value (view old.seat)
+    (view mid.seat))
     k.1.0.call c.in-Some.ensures.flagged)
 
 pub returns-in-None-clause-turned : goal.returns-in-None-clause-turned
-returns-in-None-clause-turned c = let z = c.args.pool.now.layout in let old = c.args.pass.now in let mid = c.flag_turn.new.pass in let g = c.args.going.now in
+returns-in-None-clause-turned c = let z = c.args.pool.now.layout in let old = c.args.pass.now in let mid = c.flag_turn.new.pass in
+    let g = c.args.going.now in
     let l = c.lose_again in let new = l.new.pass in
     turned_same z old.share g l.new.going (view old.seat) (view mid.seat) (view new.seat) old.purse new.purse l.result
-    (HasMissed z old.share g (view mid.seat) mid.purse) c.in-None.ensures.flagged.names.stepped (some_named _ _ (steps_made (view old.seat) (view mid.seat)) c.in-None.ensures.flagged.names.named) c.in-None.ensures.flagged.names.stands
-    (flag_missed z old.share g c.args.sought (view old.seat) (view mid.seat) old.purse c.requires.at c.in-None.ensures.flagged mid.purse c.flag_turn.ensures.purse)
+    (HasMissed z old.share g (view mid.seat) mid.purse) c.in-None.ensures.flagged.names.stepped
+    (some_named _ _ (steps_made (view old.seat) (view mid.seat)) c.in-None.ensures.flagged.names.named)
+    c.in-None.ensures.flagged.names.stands
+    (flag_missed z old.share g c.args.sought (view old.seat) (view mid.seat) old.purse c.requires.at
+    c.in-None.ensures.flagged mid.purse c.flag_turn.ensures.purse)
     (missed_shared z old.share mid.share g l.new.going (view mid.seat) (view new.seat) mid.purse new.purse l.result
     (same_share 5 2 old.seat mid.seat _ _ _ _ _ _ _ _ old.keeping mid.keeping c.flag_turn.ensures.same) l.ensures.part)

@@ -1,52 +1,58 @@
-use Rattle.std.proofs.Common.{◌≡◌, ℕ, true, false, refl, sym, ap, ◌∙◌, subst}
-use Rattle.pp_link.specs.Links.{word_of}
+use Rattle.std.proofs.Common.{refl}
 use Rattle.pp_model.specs.declared.Answer.TheVariants.{Said}
-use Rattle.pp_model.specs.declared.Call.{Call}
 use Rattle.pp_model.specs.declared.Reply.TheVariants.{Took}
-use Rattle.pp_model.specs.MapCalls.{WentOn}
-use Rattle.pp_base.specs.Passes.{known, view}
+use Rattle.pp_base.specs.Passes.{view}
 use Rattle.pp_calls.proofs.Purses.{same_share}
 use Rattle.pp_shelf.specs.Runs.{steps_made}
-use Rattle.pp_tree_turns.specs.Exchanging.{FlagsLeaf}
-use Rattle.pp_tree_calls.specs.declared.going.Next.{Next}
-use Rattle.pp_tree_calls.specs.declared.going.Next.TheVariants.{Splices}
 use Rattle.pp_tree_calls.specs.Answers.{MayEnd}
-use Rattle.pp_tree_calls.specs.Going.{Stands, kind_of, going_of}
-use Rattle.pp_tree_calls.specs.Turned.{Part, HasMissed, TreeTurned}
+use Rattle.pp_tree_calls.specs.Turned.{HasMissed}
 use Rattle.pp_tree_calls.proofs.Lasting.{missed_shared}
 use Rattle.pp_tree_calls.proofs.Arriving.{ends_as}
-use Rattle.pp_tree_calls.proofs.Resting.{rest_kept}
-use Rattle.pp_tree_calls.proofs.Treading.{some_named, turned_same}
-use Rattle.pp_tree_calls.proofs.Exchanged.{some_in, flag_missed, flag_turned, tag_missed, tag_goes, comes_to, splice_missed, splice_lost, splice_may, end_part}
+use Rattle.pp_tree_calls.proofs.Treading.{turned_same}
+use Rattle.pp_tree_calls.proofs.Exchanged.{some_in, splice_missed}
+use Rattle.pp_tree_calls.proofs.Exchanged.{splice_lost, splice_may, end_part}
 use Rattle.pp_tree_calls.proofs.turns.splice_on.Goals as goal
 
 pub returns-then-not-splice_turn-clause-turned : goal.returns-then-not-splice_turn-clause-turned
-returns-then-not-splice_turn-clause-turned c = let z = c.args.pool.now.layout in let old = c.args.pass.now in let mid = c.splice_turn.new.pass in let g = c.args.going.now in
+returns-then-not-splice_turn-clause-turned c = let z = c.args.pool.now.layout in let old = c.args.pass.now in
+    let mid = c.splice_turn.new.pass in let g = c.args.going.now in
     let l = c.lose_again in let new = l.new.pass in
     turned_same z old.share g l.new.going (view old.seat) (view mid.seat) (view new.seat) old.purse new.purse l.result
-    (HasMissed z old.share g (view mid.seat) mid.purse) c.if-not-splice_turn.ensures.spliced.names.stepped (some_in c.if-not-splice_turn.ensures.spliced.flush _ _ (steps_made (view old.seat) (view mid.seat)) c.if-not-splice_turn.ensures.spliced.names.named) c.if-not-splice_turn.ensures.spliced.names.stands
-    (splice_missed z old.share g c.args.sought (view old.seat) (view mid.seat) old.purse c.args.side c.args.sibling c.requires.at c.if-not-splice_turn.ensures.spliced mid.purse c.splice_turn.ensures.purse.free c.splice_turn.ensures.purse.taken c.splice_turn.ensures.same.sizes)
+    (HasMissed z old.share g (view mid.seat) mid.purse) c.if-not-splice_turn.ensures.spliced.names.stepped
+    (some_in c.if-not-splice_turn.ensures.spliced.flush _ _ (steps_made (view old.seat) (view mid.seat))
+    c.if-not-splice_turn.ensures.spliced.names.named) c.if-not-splice_turn.ensures.spliced.names.stands
+    (splice_missed z old.share g c.args.sought (view old.seat) (view mid.seat) old.purse c.args.side c.args.sibling c.requires.at
+    c.if-not-splice_turn.ensures.spliced mid.purse c.splice_turn.ensures.purse.free c.splice_turn.ensures.purse.taken
+    c.splice_turn.ensures.same.sizes)
     (missed_shared z old.share mid.share g l.new.going (view mid.seat) (view new.seat) mid.purse new.purse l.result
     (same_share 5 2 old.seat mid.seat _ _ _ _ _ _ _ _ old.keeping mid.keeping c.splice_turn.ensures.same) l.ensures.part)
 
 pub returns-then-going-clause-turned : goal.returns-then-going-clause-turned
-returns-then-going-clause-turned c = let z = c.args.pool.now.layout in let old = c.args.pass.now in let mid = c.splice_turn.new.pass in let g = c.args.going.now in
+returns-then-going-clause-turned c = let z = c.args.pool.now.layout in let old = c.args.pass.now in
+    let mid = c.splice_turn.new.pass in let g = c.args.going.now in
     let l = c.end in let new = l.new.pass in let e = c.if-not-splice_turn.ensures.spliced in
     turned_same z old.share g l.new.going (view old.seat) (view mid.seat) (view new.seat) old.purse new.purse l.result
     (λ from free. MayEnd z old.share g.races g.call g.records (Said (Took g.taken)) from (view mid.seat) free mid.purse) e.names.stepped
     (some_in e.flush _ _ (steps_made (view old.seat) (view mid.seat)) e.names.named) e.names.stands
     (splice_may z old.share g c.args.sought (view old.seat) (view mid.seat) old.purse mid.purse c.args.side c.args.sibling c.requires.at
     c.if-going.true e c.splice_turn.ensures.purse.free c.splice_turn.ensures.same.sizes)
-    (end_part z old.share g l.new.going (Said (Took g.taken)) (view mid.seat) (view new.seat) mid.purse new.purse l.result l.ensures.over l.ensures.done
+    (end_part z old.share g l.new.going (Said (Took g.taken)) (view mid.seat)
+    (view new.seat) mid.purse new.purse l.result l.ensures.over l.ensures.done
     c.if-going.true
-    (ends_as z old.share mid.share g.races g.call g.records (Said (Took g.taken)) (view mid.seat) (view new.seat) mid.purse mid.purse new.purse
+    (ends_as z old.share mid.share g.races g.call g.records (Said (Took g.taken)) (view mid.seat)
+    (view new.seat) mid.purse mid.purse new.purse
     (same_share 5 2 old.seat mid.seat _ _ _ _ _ _ _ _ old.keeping mid.keeping c.splice_turn.ensures.same) refl l.ensures.ended))
 
 pub returns-clause-turned : goal.returns-clause-turned
-returns-clause-turned c = let z = c.args.pool.now.layout in let old = c.args.pass.now in let mid = c.splice_turn.new.pass in let g = c.args.going.now in
+returns-clause-turned c = let z = c.args.pool.now.layout in let old = c.args.pass.now in let mid = c.splice_turn.new.pass in
+    let g = c.args.going.now in
     let l = c.lose_again-2 in let new = l.new.pass in
     turned_same z old.share g l.new.going (view old.seat) (view mid.seat) (view new.seat) old.purse new.purse l.result
-    (HasMissed z old.share g (view mid.seat) mid.purse) c.if-not-splice_turn.ensures.spliced.names.stepped (some_in c.if-not-splice_turn.ensures.spliced.flush _ _ (steps_made (view old.seat) (view mid.seat)) c.if-not-splice_turn.ensures.spliced.names.named) c.if-not-splice_turn.ensures.spliced.names.stands
-    (splice_lost z old.share g c.args.sought (view old.seat) (view mid.seat) old.purse c.args.side c.args.sibling c.requires.at c.if-going.false c.if-not-splice_turn.ensures.spliced mid.purse c.splice_turn.ensures.purse.free c.splice_turn.ensures.purse.taken c.splice_turn.ensures.same.sizes)
+    (HasMissed z old.share g (view mid.seat) mid.purse) c.if-not-splice_turn.ensures.spliced.names.stepped
+    (some_in c.if-not-splice_turn.ensures.spliced.flush _ _ (steps_made (view old.seat) (view mid.seat))
+    c.if-not-splice_turn.ensures.spliced.names.named) c.if-not-splice_turn.ensures.spliced.names.stands
+    (splice_lost z old.share g c.args.sought (view old.seat) (view mid.seat) old.purse c.args.side c.args.sibling c.requires.at
+    c.if-going.false c.if-not-splice_turn.ensures.spliced mid.purse c.splice_turn.ensures.purse.free
+    c.splice_turn.ensures.purse.taken c.splice_turn.ensures.same.sizes)
     (missed_shared z old.share mid.share g l.new.going (view mid.seat) (view new.seat) mid.purse new.purse l.result
     (same_share 5 2 old.seat mid.seat _ _ _ _ _ _ _ _ old.keeping mid.keeping c.splice_turn.ensures.same) l.ensures.part)

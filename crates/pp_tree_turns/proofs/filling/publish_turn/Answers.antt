@@ -1,5 +1,5 @@
-use Rattle.std.proofs.Common.{◌≡◌, ℕ, false, ap, ◌∙◌, subst}
-use Rattle.pp_base.specs.Passes.{known, view}
+use Rattle.std.proofs.Common.{◌≡◌, ℕ, false, ap, sym, ◌∙◌, subst}
+use Rattle.pp_base.specs.Passes.{known, view, IsAtRest}
 use Rattle.pp_base.specs.declared.purse.Purse.{Purse}
 use Rattle.pp_link.specs.Links.{word_of}
 use Rattle.pp_link.specs.declared.link.Link.{Link}
@@ -7,6 +7,7 @@ use Rattle.pp_pool.specs.Taken.{one_fewer_out}
 use Rattle.pp_trees.specs.Edges.{TreeView}
 use Rattle.pp_tree_turns.specs.Filling.{Filled, FilledOver, OwnsAlike}
 use Rattle.pp_tree_turns.proofs.Adding.{publish_readable, may_publish, publish_far, alike_then, published_to, number_small}
+use Rattle.pp_tree_turns.proofs.Adding.{rest_alike, rest_published}
 use Rattle.pp_tree_turns.proofs.filling.publish_turn.Goals as goal
 
 -- the new leaf, by its fields
@@ -41,7 +42,8 @@ publish-requires-clause-may c = let z = c.args.pool.now.layout in let s = c.args
     (alike_then z s c.args.key c.args.value m k c.key-here.result _ v v1 v2 v3 v3 c.requires.may
     c.key-here.ensures.read.made leaf inner)
     m k c.key-here.result leaf.is inner.is c.requires.apart has inner.has leaf.key_is leaf.value_is leaf.left_is leaf.right_is
-    c.key-here.ensures.key inner.below inner.above (number_small _ v3.known m leaf.is pass has) (number_small _ v3.known k inner.is pass inner.has)
+    c.key-here.ensures.key inner.below inner.above (number_small _ v3.known m leaf.is pass has)
+    (number_small _ v3.known k inner.is pass inner.has)
 
 pub returns-clause-published : goal.returns-clause-published
 returns-clause-published c = let z = c.args.pool.now.layout in let s = c.args.sought in let v = view c.args.pass.now.seat in
@@ -53,6 +55,19 @@ returns-clause-published c = let z = c.args.pool.now.layout in let s = c.args.so
     c.key-here.ensures.read.made leaf inner _ (publish_far z v.known v3.known s c.args.key c.args.value c.requires.may
     (alike_then z s c.args.key c.args.value c.args.leaf.number c.args.inner.number c.key-here.result _ v v1 v2 v3 w c.requires.may
     c.key-here.ensures.read.made leaf inner)) c.publish.result c.publish.ensures.published
+
+pub returns-clause-rest : goal.returns-clause-rest
+returns-clause-rest c = let z = c.args.pool.now.layout in let s = c.args.sought in let old = c.args.pass.now in let v = view old.seat in
+    let v1 = view c.key-here.new.pass.seat in let v2 = view c.fill.new.pass.seat in let v3 = view c.fill_over.new.pass.seat in
+    let leaf = leaf_filled _ _ _ c.pack-nil.result v1 v2 c.pack-nil.ensures c.fill.ensures.filled in
+    let inner = over_filled _ _ c.number.result _ _ _ v2 v3 c.number.ensures c.fill_over.ensures.filled in
+    let alike = alike_then z s c.args.key c.args.value c.args.leaf.number c.args.inner.number c.key-here.result _ v v1 v2 v3 v3
+    c.requires.may
+    c.key-here.ensures.read.made leaf inner in
+    let same = c.fill_over.ensures.purse ∙ (c.fill.ensures.purse ∙ c.key-here.ensures.purse) in
+    rest_published _ _ _ _ v3 (view c.publish.new.pass.seat) c.fill_over.new.pass.purse c.publish.new.pass.purse c.publish.result
+    c.publish.ensures.published c.publish.ensures.spent c.publish.ensures.kept
+    (subst (λ (p : Purse). IsAtRest v3.known p) (sym same) (rest_alike v.known v3.known old.purse alike c.requires.rest))
 
 pub returns-clause-spent : goal.returns-clause-spent
 returns-clause-spent c = λ is. c.publish.ensures.spent is

@@ -6,7 +6,8 @@ use Rattle.pp_tree_turns.proofs.turns.splice_turn.Goals as goal
 pub returns-in-Detached-clause-spliced : goal.returns-in-Detached-clause-spliced
 returns-in-Detached-clause-spliced c = let pass = c.args.pass.now in let s = c.args.sought in
     takes_path c.args.pool.now.layout s.ancestor s.ancestor_side _ _ s.word _ (view pass.seat)
-    (view c.splice.new.pass.seat) (view c.clear_after.new.pass.seat) (few_chains (known pass.seat) pass.purse pass.keeping.chains pass.keeping.few)
+    (view c.splice.new.pass.seat) (view c.clear_after.new.pass.seat) (few_chains
+    (known pass.seat) pass.purse pass.keeping.chains pass.keeping.few)
     c.in-Detached.ensures.spliced (c.in-Detached.ensures.in_hand refl) c.clear_after.ensures.made c.clear_after.ensures.gone
 
 pub returns-in-Detached-clause-rest : goal.returns-in-Detached-clause-rest

@@ -1,10 +1,10 @@
 use Rattle.pp_base.specs.Passes.{view}
 use Rattle.pp_ends.proofs.Closing.{closing}
+use Rattle.pp_ends.proofs.Telling.{tells_map}
 use Rattle.pp_lists.specs.Contents.{ListGathered}
 use Rattle.pp_lists.specs.Lists.{ListTells, ListTellsPass}
 use Rattle.pp_list.specs.Causes.{list_causes}
 use Rattle.pp_list.specs.Meant.{list_words}
-use Rattle.pp_buckets.proofs.Telling.{tells_map}
 use Rattle.pp_buckets.proofs.calls.BucketsMapCalls.close.Goals as goal
 
 pub close-requires-clause-each : goal.close-requires-clause-each
@@ -17,5 +17,5 @@ pub returns-in-Ok-clause-closed : goal.returns-in-Ok-clause-closed
 returns-in-Ok-clause-closed c = let z = c.args.self.pool.layout in let closed = c.in-Ok.closed in
     closing ListGathered ListTells ListTellsPass list_words list_causes z c.args.self.pool.table.shared.table_id c.args.passes.items
     closed.contents.items closed.free.items closed.witness.live.items (view closed.witness.seat)
-    (λ k p at. let r = c.requires.each k p at in (r.0.fits, r.2)) c.requires.all (tells_map z) (λ log p placed told. told)
-    c.in-Ok.ensures.closed
+    (λ k p at. let r = c.requires.each k p at in (r.0.fits, r.2)) c.requires.all
+    (λ log pairs told. tells_map log pairs told.sound told.contents) (λ log p placed told. told) c.in-Ok.ensures.closed

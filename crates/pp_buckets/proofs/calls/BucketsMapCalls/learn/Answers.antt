@@ -5,11 +5,11 @@ use Rattle.pp_base.specs.Passes.{known, view}
 use Rattle.pp_calls.specs.PoolViews.{pool_view}
 use Rattle.pp_calls.proofs.Purses.{same_share, has_own}
 use Rattle.pp_ends.specs.Ends.{note_in}
-use Rattle.pp_ends.proofs.Learning.{learns}
+use Rattle.pp_ends.proofs.Learning.{learns, calls_learnt}
 use Rattle.pp_turns.specs.Turns.{BegunAt}
 use Rattle.pp_turns.proofs.Answering.{begun_on}
 use Rattle.pp_list.specs.Going.{IsUnder}
-use Rattle.pp_buckets.proofs.Learning.{under_learnt, calls_learnt}
+use Rattle.pp_buckets.proofs.Learning.{under_learnt}
 use Rattle.pp_buckets.proofs.calls.BucketsMapCalls.learn.Goals as goal
 
 pub returns-clause-belongs : goal.returns-clause-belongs

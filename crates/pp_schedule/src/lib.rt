@@ -1,0 +1,14 @@
+//! Calls of any map as futures, each poll one turn, and callers on one thread who make their turns by a plan.
+#![tactic(auto)]
+
+pub mod call_future;
+pub mod caller;
+pub mod playing;
+pub mod runner;
+pub mod schedule;
+
+pub use call_future::{CallFuture, Spoken};
+pub use runner::{BlockOn, NoRunner, Runner};
+
+#[cfg(test)]
+mod tests;
