@@ -1,5 +1,5 @@
 -- Where nothing fails and nothing is wrong, a replay answers its lines.
-use Rattle.std.proofs.Common.{◌≡◌, ℕ, ◌≤◌, List, ◌++◌, length, refl, sym, ap, ap₂, ◌∙◌, inl, inr, arith, length-append}
+use Rattle.std.proofs.Common.{◌≡◌, ℕ, ◌≤◌, List, length, refl, sym, ap, ap₂, ◌∙◌, inl, inr, arith, length-append}
 use Rattle.std.specs.Prelude.{Option, Some, None}
 use Rattle.std.specs.Io.KnownBytes.{Consumes}
 use Rattle.std.proofs.KnownBytes.{Consumes-whole}
@@ -59,5 +59,4 @@ module _ (words : List (List ℕ)) (before after : World) (answers : List (List 
   complete way.Unread cause = absurd (good.source cause.came.rose)
   complete way.TooLong cause = absurd (not_too_long cause.settings cause.said_by cause.reads cause.came.gave)
   complete way.Unwritten cause = absurd (good.sink cause.rose)
-  complete way.NoMemory cause = inr (inr (inl refl))
-  complete way.NotBuilt cause = inr (inr (inr refl))
+  complete way.NoMemory cause = inr (inr refl)

@@ -1,4 +1,4 @@
-use Rattle.std.proofs.Common.{arith, ◌<◌, ◌≤◌, length, map, refl, sym, ap, subst}
+use Rattle.std.proofs.Common.{arith, ◌<◌, ◌≤◌, length, refl, sym, ap}
 use Rattle.std.proofs.lemmas.List.{length-map}
 use Rattle.std.proofs.lemmas.Option.{slice_get_read}
 use Rattle.pp_model.specs.Plain.{plain_meaning, plain_sizes}
@@ -23,9 +23,6 @@ overflow_cast-calls g c =
     let short_one : length c.index.result.now.items ≤ 16777216 =
     c.requires.calls.short 0 c.index.result.now.items (at_mapped (λ v. v.items) lists 0 c.index.result.now here) in
     omega (arith, short_one, c.len-calls.ensures, c.index.result.now.ok.0)
-
-pub run_shown-shown-requires-clause-built : goal.run_shown-shown-requires-clause-built
-run_shown-shown-requires-clause-built g c κs within = rw c.requires.plain tt
 
 pub run_shown-shown-requires-clause-chosen : goal.run_shown-shown-requires-clause-chosen
 run_shown-shown-requires-clause-chosen g c κs within = rw c.in-Ok.ensures.sizes (chosen c.args.settings plain_meaning (plain_sizes c.args.settings.records)
