@@ -62,7 +62,10 @@ fn is_whole(alloc: Global, text: &str, calls: u32) -> Result<bool, Fail> {
 #[test]
 fn eight_callers_share_their_keys(rt: HostRuntime) -> Result<(), Fail> {
     let trace = shared(rt.alloc(), 200_000)?;
-    for line in ["--map hash --callers 8", "--map tree --callers 8 --records 262144"] {
+    for line in [
+        "--map hash --callers 8",
+        "--map tree --callers 8 --records 262144",
+    ] {
         let got = replayed(&rt, rt.alloc(), line, trace.as_bytes(), &SOUND, &NoGate)?;
         assert_eq!(rt; got.status, 0, "{line}");
         let text = String::from_utf8(got.sink)?;

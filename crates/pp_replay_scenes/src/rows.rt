@@ -295,7 +295,11 @@ fn one_of_two_inserts_is_held(rt: HostRuntime) -> Result<(), Fail> {
     let trace = b"0 insert 5 50\n1 insert 5 51\n";
     let first: &[u8] = b"0 1 added\n1 1 held 50\ncontents 1\n5 50\n";
     let second: &[u8] = b"0 1 held 51\n1 1 added\ncontents 1\n5 51\n";
-    for line in ["--map list --callers 2", "--map hash --callers 2", "--map tree --callers 2"] {
+    for line in [
+        "--map list --callers 2",
+        "--map hash --callers 2",
+        "--map tree --callers 2",
+    ] {
         let got = replayed(&rt, rt.alloc(), line, trace, &SOUND, &NoGate)?;
         assert_eq!(rt; got.status, 0, "{line}");
         assert!(rt;
