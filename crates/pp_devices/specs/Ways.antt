@@ -14,7 +14,6 @@ status_of way.Unwritten = 4
 status_of way.NoMemory = 5
 status_of (way.Partly full lost) = 6
 status_of way.TooLong = 7
-status_of way.NotBuilt = 8
 
 -- the line that tells it
 abbrev pub line_of : Way → List ℕ
@@ -26,4 +25,3 @@ line_of way.Unwritten = codes "write: failed\n"
 line_of way.NoMemory = codes "memory: refused\n"
 line_of (way.Partly full lost) = codes "answers: " ++ decimal full ++ codes " full, " ++ decimal lost ++ codes " lost\n"
 line_of way.TooLong = codes "trace: longer than 16777216 bytes\n"
-line_of way.NotBuilt = codes "map: not built\n"

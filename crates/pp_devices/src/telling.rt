@@ -64,7 +64,6 @@ fn line_text(way: Way) -> ArrayString<LINE>
             line.push_str(" lost\n");
         }
         Way::TooLong => line.push_str("trace: longer than 16777216 bytes\n"),
-        Way::NotBuilt => line.push_str("map: not built\n"),
     }
     line
 }

@@ -24,8 +24,6 @@ pub enum Way {
     Unwritten,
     /// There was no memory.
     NoMemory,
-    /// The words ask for a map that isn't built yet.
-    NotBuilt,
 }
 
 impl Way {
@@ -42,7 +40,6 @@ impl Way {
             Way::NoMemory => 5,
             Way::Partly { .. } => 6,
             Way::TooLong => 7,
-            Way::NotBuilt => 8,
         }
     }
 }

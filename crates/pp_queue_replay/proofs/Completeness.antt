@@ -55,4 +55,3 @@ module _ (words : List (List ℕ)) (before after : World) (answers : List (List 
   complete way.TooLong cause = absurd (not_too_long cause.came.gave)
   complete way.Unwritten cause = absurd (good.sink cause.rose)
   complete way.NoMemory cause = inr (inr refl)
-  complete way.NotBuilt cause = absurd cause

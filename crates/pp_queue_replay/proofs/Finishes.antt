@@ -47,7 +47,6 @@ finished full lost way.Unread before after answers text is f l printed = absurd 
 finished full lost way.TooLong before after answers text is f l printed = absurd is
 finished full lost way.Unwritten before after answers text is f l printed = absurd is
 finished full lost way.NoMemory before after answers text is f l printed = absurd is
-finished full lost way.NotBuilt before after answers text is f l printed = absurd is
 
 -- want of memory once there were calls
 pub refused : (words : List (List ℕ)) (settings : Settings) (lists : List (List QueueCall)) (read now was : Device)
@@ -70,7 +69,6 @@ unread words settings read now was answers kept way.Answered said none = absurd 
 unread words settings read now was answers kept (way.Partly full lost) said none = absurd none
 unread words settings read now was answers kept way.BadWords said none = absurd none
 unread words settings read now was answers kept way.Unwritten said none = absurd none
-unread words settings read now was answers kept way.NotBuilt said none = absurd none
 
 module _ (words : List (List ℕ)) (settings : Settings) (lists : List (List QueueCall)) (answers : List (List QueueAnswer)) (run : QueueRun)
     (read was now after : Device) (said_by : Says words settings) (calls : WasRead settings.callers read now lists)
@@ -101,4 +99,3 @@ module _ (words : List (List ℕ)) (settings : Settings) (lists : List (List Que
   cause_of (way.BadLine line why) is = absurd is
   cause_of way.Unread is = absurd is
   cause_of way.TooLong is = absurd is
-  cause_of way.NotBuilt is = absurd is

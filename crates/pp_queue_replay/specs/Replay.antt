@@ -127,7 +127,6 @@ Cause way.TooLong words before after answers kept =
     IsReading words before after (λ s. WasTooLong before.source after.source)
 Cause way.Unwritten words before after answers kept = IsCut words before after answers kept
 Cause way.NoMemory words before after answers kept = HadNoMemory before after
-Cause way.NotBuilt words before after answers kept = ⊥
 
 -- The ending of a replay: it ended in one way, by its cause, with its status, and its line was told.
 pub record IsEnding (words : List (List ℕ)) (before after : World) (Told : List ℕ → Type 0) (ending : EndingView) : Type 0 where

@@ -59,5 +59,4 @@ module _ (words : List (List ℕ)) (before after : World) (answers : List (List 
   complete way.Unread cause = absurd (good.source cause.came.rose)
   complete way.TooLong cause = absurd (not_too_long cause.settings cause.said_by cause.reads cause.came.gave)
   complete way.Unwritten cause = absurd (good.sink cause.rose)
-  complete way.NoMemory cause = inr (inr (inl refl))
-  complete way.NotBuilt cause = inr (inr (inr refl))
+  complete way.NoMemory cause = inr (inr refl)

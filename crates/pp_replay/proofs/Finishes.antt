@@ -18,7 +18,7 @@ use Rattle.pp_devices.specs.declared.ways.Way.TheVariants as way
 use Rattle.pp_running.specs.Jobs.{AreCalls}
 use Rattle.pp_replay.specs.Printed.{IsPrinted, AreShort}
 use Rattle.pp_devices.specs.Devices.{Device, World, world}
-use Rattle.pp_replay.specs.Replay.{output, Cause, HasCalls, HadNoMemory, IsBuilt, IsReplay, IsRunUnder}
+use Rattle.pp_replay.specs.Replay.{output, Cause, HasCalls, HadNoMemory, IsReplay, IsRunUnder}
 use Rattle.pp_replay.specs.Parts.{IsFinished, IsWayOf, WasSpared}
 
 -- lists that are short have few elements in all
@@ -45,7 +45,6 @@ finished full lost way.Unread before after answers text is f l printed = absurd 
 finished full lost way.TooLong before after answers text is f l printed = absurd is
 finished full lost way.Unwritten before after answers text is f l printed = absurd is
 finished full lost way.NoMemory before after answers text is f l printed = absurd is
-finished full lost way.NotBuilt before after answers text is f l printed = absurd is
 
 -- where there were calls, no read failed, and with a made trace nothing was read
 pub spared : (make : Option Make) (callers : ℕ) (before after : Device) (lists : List (List Call)) → HasCalls make callers before after lists
@@ -85,14 +84,13 @@ refused words settings lists read now was answers kept w said_by calls is =
     rw is (no_memory words settings (world read was) (world now was) said_by refl (spared settings.make settings.callers read now lists calls))
 
 module _ (words : List (List ℕ)) (settings : Settings) (lists : List (List Call)) (answers : List (List Answer)) (run : RunView)
-    (read was now after : Device) (said_by : settings_of words ≡ Some settings) (built : IsBuilt settings.map)
+    (read was now after : Device) (said_by : settings_of words ≡ Some settings)
     (calls : HasCalls settings.make settings.callers read now lists)
     (under : IsRunUnder settings lists answers run) where
   abbrev replayed : IsReplay words (world read was) (world now after) answers (Some run)
   replayed = record {
     settings = settings;
     said_by = said_by;
-    built = built;
     lists = lists;
     calls = calls;
     run = run;
@@ -116,4 +114,3 @@ module _ (words : List (List ℕ)) (settings : Settings) (lists : List (List Cal
   cause_of (way.BadLine line why) is = absurd is
   cause_of way.Unread is = absurd is
   cause_of way.TooLong is = absurd is
-  cause_of way.NotBuilt is = absurd is

@@ -2,5 +2,7 @@ pub mod PrintedTexts
 pub mod Finishes
 pub mod Unders
 pub mod PlainRuns
+pub mod PoolRuns
 pub mod TableRuns
+pub mod TreeRuns
 pub mod Completeness

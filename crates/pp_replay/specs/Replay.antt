@@ -15,6 +15,7 @@ use Rattle.pp_model.specs.History.{contents_of}
 use Rattle.pp_model.specs.Pass.{PassView, MapSizes, Meaning, RunView}
 use Rattle.pp_model.specs.Plain.{plain_meaning}
 use Rattle.pp_list.specs.Meant.{list_meaning}
+use Rattle.pp_tree_turns.specs.Causes.{tree_meaning}
 use Rattle.pp_trace.specs.declared.Make.{Make}
 use Rattle.pp_trace.specs.declared.Why.{Why}
 use Rattle.pp_trace.specs.Grammar.{bad}
@@ -36,19 +37,12 @@ pub record EndingView : Type 0 where
 
 -- ---- the chosen map
 
--- the maps that are built
-abbrev pub IsBuilt : Kind → Type 0
-IsBuilt kind.Plain = Unit {0}
-IsBuilt kind.List = Unit {0}
-IsBuilt kind.Hash = Unit {0}
-IsBuilt kind.Tree = ⊥
-
 -- what the calls of a map mean by lost turns, causes and live records
 abbrev pub meaning_of : Kind → Meaning
 meaning_of kind.Plain = plain_meaning
 meaning_of kind.List = list_meaning
 meaning_of kind.Hash = list_meaning
-meaning_of kind.Tree = plain_meaning
+meaning_of kind.Tree = tree_meaning
 
 abbrev pub heads_of : Settings → Kind → ℕ
 heads_of s kind.Plain = 0
@@ -108,12 +102,11 @@ pub record IsRunUnder (settings : Settings) (lists : List (List Call)) (answers 
   -- no line of the plain map is lost
   pub none_lost : settings.map ≡ kind.Plain → count_all is_lost answers ≡ 0
 
--- The words say settings, whose map is built; the source, or the made trace, says each caller's calls; the run of the chosen map
+-- The words say settings; the source, or the made trace, says each caller's calls; the run of the chosen map
 -- answered them; and the text is that of the answers and of the map after the whole log.
 pub record IsReplay (words : List (List ℕ)) (before after : World) (answers : List (List Answer)) (kept : Option RunView) : Type 0 where
   pub settings : Settings
   pub said_by : settings_of words ≡ Some settings
-  pub built : IsBuilt settings.map
   pub lists : List (List Call)
   pub calls : HasCalls settings.make settings.callers before.source after.source lists
   pub run : RunView
@@ -139,11 +132,10 @@ pub record IsCut (words : List (List ℕ)) (before after : World) (answers : Lis
 
 -- ---- what a refused replay says
 
--- the words say settings whose map is built and under which the source is read; reading came to this, and the sink is as it was
+-- the words say settings under which the source is read; reading came to this, and the sink is as it was
 pub record IsReading (words : List (List ℕ)) (before after : World) (Came : Settings → Type 0) : Type 0 where
   pub settings : Settings
   pub said_by : settings_of words ≡ Some settings
-  pub built : IsBuilt settings.map
   pub reads : settings.make ≡ None
   pub came : Came settings
   pub quiet : after.sink ≡ before.sink
@@ -155,13 +147,6 @@ pub record HasBadLine (callers line : ℕ) (why : Why) (before after : Device) :
   pub unfailed : after.faults ≡ before.faults
   pub within : length bytes ≤ 16777216
   pub first : bad bytes callers ≡ Some (record { line = line; why = why })
-
--- the words say settings whose map isn't built
-pub record IsNotBuilt (words : List (List ℕ)) (before after : World) : Type 0 where
-  pub settings : Settings
-  pub said_by : settings_of words ≡ Some settings
-  pub other : IsBuilt settings.map → ⊥
-  pub untouched : Untouched before after
 
 -- there was no memory: nothing was written, no read failed, and with a made trace nothing was read
 pub record HadNoMemory (words : List (List ℕ)) (before after : World) : Type 0 where
@@ -184,7 +169,6 @@ Cause way.TooLong words before after answers kept =
     IsReading words before after (λ s. WasTooLong before.source after.source)
 Cause way.Unwritten words before after answers kept = IsCut words before after answers kept
 Cause way.NoMemory words before after answers kept = HadNoMemory words before after
-Cause way.NotBuilt words before after answers kept = IsNotBuilt words before after
 
 -- The ending of a replay: it ended in one way, by its cause, with its status, and its line was told.
 pub record IsEnding (words : List (List ℕ)) (before after : World) (Told : List ℕ → Type 0) (ending : EndingView) : Type 0 where
@@ -205,6 +189,6 @@ pub record IsGood (words : List (List ℕ)) (before after : World) : Type 0 wher
   pub source : Rose before.source.faults after.source.faults → ⊥
   pub sink : Rose before.sink.faults after.sink.faults → ⊥
 
--- all lines were answered or printed full or lost, or there was no memory, or the map isn't built
+-- all lines were answered or printed full or lost, or there was no memory
 abbrev pub IsAnswered : ℕ → Type 0
-IsAnswered status = (status ≡ 0) ⊎ ((status ≡ 6) ⊎ ((status ≡ 5) ⊎ (status ≡ 8)))
+IsAnswered status = (status ≡ 0) ⊎ ((status ≡ 6) ⊎ (status ≡ 5))

@@ -32,6 +32,7 @@ abbrev pub kept_run : Kept → Option RunView
 kept_run kept.Nothing = None
 kept_run (kept.Plain closed) = Some (plain_kept_run closed.witness)
 kept_run (kept.Table closed) = Some (pool_kept_run closed.witness)
+kept_run (kept.Tree closed) = Some (pool_kept_run closed.witness)
 
 abbrev pub ending_view : Inside → EndingView
 ending_view e = record { status = e.status; answers = map (λ v. v.items) e.answers.items; run = kept_run e.kept }

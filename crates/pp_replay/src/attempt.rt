@@ -8,16 +8,18 @@ ghost use Rattle.pp_running.specs.Jobs.{AreCalls};
 ghost use Rattle.pp_replay.specs.View.{kept_run, plain_kept_run, pool_kept_run, shown_run};
 ghost use Rattle.pp_devices.specs.Devices.{Device, device, world};
 ghost use Rattle.pp_replay.specs.Parts.{IsTable};
-ghost use Rattle.pp_replay.specs.Replay.{Cause, HasCalls, IsBuilt};
+ghost use Rattle.pp_replay.specs.Replay.{Cause, HasCalls};
 
 use crate::Kept;
 use crate::calls::take_calls;
 use crate::showing::run_shown;
 use pp_buckets::Buckets;
 use pp_devices::Way;
+use pp_edges::TreeShape;
 use pp_model::{Answer, Call, Closed, PlainKept, PlainMap};
 use pp_outside::{Gate, Sink, Source};
 use pp_pool::closing::Witness;
+use pp_tree::Tree;
 use pp_walk::ListShape;
 use pp_words::words::settings;
 use pp_words::{Kind, Settings, WordsFault};
@@ -77,29 +79,6 @@ fn attempt_under<R: Threads + Sync, S: Source, K: Sink, G: Gate + Sync>(
         (world (device (S.left source.new) (S.faults source.new)) (device (K.written sink.new) (K.faults sink.new)))
         (map (λ v. v.items) result.answers.items) (kept_run result.kept) }
 {
-    match settings.map {
-        Kind::Plain | Kind::List | Kind::Hash => {
-            attempt_built(rt, alloc, settings, source, sink, gate)
-        }
-        Kind::Tree => without_run(alloc, Way::NotBuilt),
-    }
-}
-
-fn attempt_built<R: Threads + Sync, S: Source, K: Sink, G: Gate + Sync>(
-    rt: &R,
-    alloc: Global,
-    settings: Settings,
-    source: &mut S,
-    sink: &mut K,
-    gate: &G,
-) -> Attempt
-    requires within { InRange settings }
-    requires built { IsBuilt settings.map }
-    ensures { (words : List (List ℕ)) → settings_of words ≡ Some settings → Cause result.way words
-        (world (device (S.left source.old) (S.faults source.old)) (device (K.written sink.old) (K.faults sink.old)))
-        (world (device (S.left source.new) (S.faults source.new)) (device (K.written sink.new) (K.faults sink.new)))
-        (map (λ v. v.items) result.answers.items) (kept_run result.kept) }
-{
     match take_calls(alloc, settings.make, settings.callers, source) {
         Ok(lists) => run_chosen(rt, alloc, settings, lists, sink, gate),
         Err(way) => without_run(alloc, way),
@@ -116,7 +95,6 @@ fn run_chosen<R: Threads + Sync, K: Sink, G: Gate + Sync>(
     gate: &G,
 ) -> Attempt
     requires within { InRange settings }
-    requires built { IsBuilt settings.map }
     requires calls { AreCalls settings.callers (map (λ v. v.items) lists.items) }
     ensures { (words : List (List ℕ)) → (before : Device) → (after : Device) → settings_of words ≡ Some settings
         → HasCalls settings.make settings.callers before after (map (λ v. v.items) lists.items) → Cause result.way words
@@ -127,7 +105,7 @@ fn run_chosen<R: Threads + Sync, K: Sink, G: Gate + Sync>(
         Kind::Plain => run_plain(rt, alloc, settings, lists, sink, gate),
         Kind::List => run_table(rt, alloc, settings, 1, lists, sink, gate),
         Kind::Hash => run_table(rt, alloc, settings, settings.buckets, lists, sink, gate),
-        Kind::Tree => without_run(alloc, Way::NotBuilt),
+        Kind::Tree => run_tree(rt, alloc, settings, lists, sink, gate),
     }
 }
 
@@ -206,6 +184,42 @@ fn kept_table(closed: Option<Closed<Witness<ListShape>>>) -> Kept
 {
     match closed {
         Some(closed) => Kept::Table(closed),
+        None => Kept::Nothing,
+    }
+}
+
+fn run_tree<R: Threads + Sync, K: Sink, G: Gate + Sync>(
+    rt: &R,
+    alloc: Global,
+    settings: Settings,
+    lists: Vec<Vec<Call>>,
+    sink: &mut K,
+    gate: &G,
+) -> Attempt
+    requires within { InRange settings }
+    requires tree { settings.map ≡ Kind.Tree }
+    requires calls { AreCalls settings.callers (map (λ v. v.items) lists.items) }
+    ensures { (words : List (List ℕ)) → (before : Device) → (after : Device) → settings_of words ≡ Some settings
+        → HasCalls settings.make settings.callers before after (map (λ v. v.items) lists.items) → Cause result.way words
+        (world before (device (K.written sink.old) (K.faults sink.old))) (world after (device (K.written sink.new) (K.faults sink.new)))
+        (map (λ v. v.items) result.answers.items) (kept_run result.kept) }
+{
+    let Ok((chosen, passes)) = Tree::start(alloc, settings.callers, settings.records) else {
+        return without_run(alloc, Way::NoMemory);
+    };
+    let shown = run_shown(rt, alloc, chosen, passes, settings, lists, sink, gate);
+    Attempt {
+        way: shown.way,
+        kept: kept_tree(shown.closed),
+        answers: shown.answers,
+    }
+}
+
+fn kept_tree(closed: Option<Closed<Witness<TreeShape>>>) -> Kept
+    ensures { kept_run result ≡ shown_run pool_kept_run closed }
+{
+    match closed {
+        Some(closed) => Kept::Tree(closed),
         None => Kept::Nothing,
     }
 }

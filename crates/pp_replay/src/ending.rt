@@ -4,6 +4,7 @@ ghost use Rattle.std.specs.Prelude.{◌≡◌, List, map};
 ghost use Rattle.pp_devices.specs.Ways.{status_of};
 
 use crate::attempt::Attempt;
+use pp_edges::TreeShape;
 use pp_model::{Answer, Closed, PlainKept};
 use pp_pool::closing::Witness;
 use pp_walk::ListShape;
@@ -18,12 +19,14 @@ pub enum Kept {
     Plain(Closed<PlainKept>),
     /// A list's or a hash table's: the run of its pool.
     Table(Closed<Witness<ListShape>>),
+    /// A tree's: the run of its pool.
+    Tree(Closed<Witness<TreeShape>>),
 }
 
 /// The ending of a replay. Contracts see its status, the callers' answers, and the run of the map that was closed.
 #[derive(Drop)]
 pub struct Ending {
-    /// 0 to 8, by the way in which the replay ended.
+    /// 0 to 7, by the way in which the replay ended.
     pub status: u8,
     kept: Kept,
     answers: Vec<Vec<Answer>>,

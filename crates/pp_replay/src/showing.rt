@@ -5,7 +5,7 @@ ghost use Rattle.pp_devices.specs.Devices.{Device, device, world};
 ghost use Rattle.pp_devices.specs.declared.ways.Way.TheVariants as Way;
 ghost use Rattle.pp_model.specs.Lists.{AtEach};
 ghost use Rattle.pp_replay.specs.Parts.{IsChosen};
-ghost use Rattle.pp_replay.specs.Replay.{Cause, HasCalls, IsBuilt, share_of, sizes_of};
+ghost use Rattle.pp_replay.specs.Replay.{Cause, HasCalls, share_of, sizes_of};
 ghost use Rattle.pp_replay.specs.View.{shown_run};
 ghost use Rattle.pp_running.specs.Jobs.{AreCalls, HaveRoom, views_of};
 ghost use Rattle.pp_running.specs.Run.{IsOpened};
@@ -44,7 +44,6 @@ where
     M::Pass: Send + Drop,
     M::Witness: Drop,
     requires within { InRange settings }
-    requires built { IsBuilt settings.map }
     requires calls { AreCalls settings.callers (map (λ v. v.items) lists.items) }
     requires chosen { IsChosen M.meaning (M.sizes chosen) settings }
     requires count { length passes.items ≡ settings.callers }

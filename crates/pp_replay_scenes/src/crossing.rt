@@ -45,7 +45,7 @@ impl Gate for Crossing {
 #[test]
 fn callers_run_side_by_side(rt: HostRuntime) -> Result<(), Fail> {
     let trace = b"0 get 1\n0 get 1\n1 get 1\n1 get 1\n";
-    for line in ["--map hash --callers 2", "--map list --callers 2"] {
+    for line in ["--map hash --callers 2", "--map list --callers 2", "--map tree --callers 2"] {
         let gate = Crossing {
             answered: (AtomicU64::new(0), AtomicU64::new(0)),
             overdue: AtomicU64::new(0),

@@ -62,12 +62,13 @@ fn is_whole(alloc: Global, text: &str, calls: u32) -> Result<bool, Fail> {
 #[test]
 fn eight_callers_share_their_keys(rt: HostRuntime) -> Result<(), Fail> {
     let trace = shared(rt.alloc(), 200_000)?;
-    let line = "--map hash --callers 8";
-    let got = replayed(&rt, rt.alloc(), line, trace.as_bytes(), &SOUND, &NoGate)?;
-    assert_eq!(rt; got.status, 0);
-    let text = String::from_utf8(got.sink)?;
-    let is_whole = is_whole(rt.alloc(), text.as_str(), 25_000)?;
-    assert!(rt; is_whole);
+    for line in ["--map hash --callers 8", "--map tree --callers 8 --records 262144"] {
+        let got = replayed(&rt, rt.alloc(), line, trace.as_bytes(), &SOUND, &NoGate)?;
+        assert_eq!(rt; got.status, 0, "{line}");
+        let text = String::from_utf8(got.sink)?;
+        let is_whole = is_whole(rt.alloc(), text.as_str(), 25_000)?;
+        assert!(rt; is_whole, "{line}");
+    }
     Ok(())
 }
 
@@ -82,6 +83,7 @@ const LIST_OUT: &[u8] =
 fn made_traces_come_to_the_same_each_time(rt: HostRuntime) -> Result<(), Fail> {
     let rows = [
         ("--map hash --records 262144 --make 1,100000", HASH_OUT),
+        ("--map tree --records 262144 --make 1,100000", HASH_OUT),
         ("--map list --records 262144 --make 1,10000", LIST_OUT),
     ];
     for (line, sink) in rows {

@@ -33,7 +33,7 @@ const AGAIN_OUT: &[u8] =
 
 #[test]
 fn replays_end_as_worked_by_hand(rt: HostRuntime) -> Result<(), Fail> {
-    let rows: [(&str, &[u8], u8, &[u8], &[u8]); 48] = [
+    let rows: [(&str, &[u8], u8, &[u8], &[u8]); 53] = [
         ("--map plain", b"", 0, b"contents 0\n", b""),
         ("--map plain", SMALL, 0, SMALL_OUT, b""),
         ("--map plain", b"0", 2, b"", b"trace: line 1: word\n"),
@@ -135,10 +135,10 @@ fn replays_end_as_worked_by_hand(rt: HostRuntime) -> Result<(), Fail> {
             b"",
             b"trace: line 2: caller\n",
         ),
-        ("--map tree", SMALL, 8, b"", b"map: not built\n"),
         ("--map hash", b"", 0, b"contents 0\n", b""),
         ("--map list --callers 1", SMALL, 0, SMALL_OUT, b""),
         ("--map hash --callers 1", SMALL, 0, SMALL_OUT, b""),
+        ("--map tree --callers 1", SMALL, 0, SMALL_OUT, b""),
         (
             "--map list --callers 1",
             SECOND_FORM,
@@ -152,6 +152,41 @@ fn replays_end_as_worked_by_hand(rt: HostRuntime) -> Result<(), Fail> {
             0,
             SECOND_FORM_OUT,
             b"",
+        ),
+        (
+            "--map tree --callers 1",
+            SECOND_FORM,
+            0,
+            SECOND_FORM_OUT,
+            b"",
+        ),
+        (
+            "--map tree",
+            b"0 insert 18446744073709551612 1\n",
+            0,
+            b"0 1 added\ncontents 1\n18446744073709551612 1\n",
+            b"",
+        ),
+        (
+            "--map tree",
+            b"0 insert 18446744073709551613 1\n",
+            2,
+            b"",
+            b"trace: line 1: key\n",
+        ),
+        (
+            "--map tree --callers 2",
+            b"0 insert 1 10\n1 insert 2 20\n1 get 2\n0 get 1\n",
+            0,
+            b"0 1 added\n0 2 value 10\n1 1 added\n1 2 value 20\ncontents 2\n1 10\n2 20\n",
+            b"",
+        ),
+        (
+            "--map tree --records 8 --callers 1",
+            b"0 insert 1 1\n0 insert 2 2\n",
+            6,
+            b"0 1 added\n0 2 full\ncontents 1\n1 1\n",
+            b"answers: 1 full, 0 lost\n",
         ),
         (
             "--map list",
@@ -260,7 +295,7 @@ fn one_of_two_inserts_is_held(rt: HostRuntime) -> Result<(), Fail> {
     let trace = b"0 insert 5 50\n1 insert 5 51\n";
     let first: &[u8] = b"0 1 added\n1 1 held 50\ncontents 1\n5 50\n";
     let second: &[u8] = b"0 1 held 51\n1 1 added\ncontents 1\n5 51\n";
-    for line in ["--map list --callers 2", "--map hash --callers 2"] {
+    for line in ["--map list --callers 2", "--map hash --callers 2", "--map tree --callers 2"] {
         let got = replayed(&rt, rt.alloc(), line, trace, &SOUND, &NoGate)?;
         assert_eq!(rt; got.status, 0, "{line}");
         assert!(rt;

@@ -24,9 +24,6 @@ overflow_cast-calls g c =
     c.requires.calls.short 0 c.index.result.now.items (at_mapped (λ v. v.items) lists 0 c.index.result.now here) in
     omega (arith, short_one, c.len-calls.ensures, c.index.result.now.ok.0)
 
-pub run_shown-shown-requires-clause-built : goal.run_shown-shown-requires-clause-built
-run_shown-shown-requires-clause-built g c κs within = rw c.requires.plain tt
-
 pub run_shown-shown-requires-clause-chosen : goal.run_shown-shown-requires-clause-chosen
 run_shown-shown-requires-clause-chosen g c κs within = rw c.in-Ok.ensures.sizes (chosen c.args.settings plain_meaning (plain_sizes c.args.settings.records)
     (sym (ap meaning_of c.requires.plain)) (plain_sized c.args.settings c.requires.within c.requires.plain))

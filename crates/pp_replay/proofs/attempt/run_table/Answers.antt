@@ -3,12 +3,10 @@ use Rattle.pp_buckets.specs.Tables.{table_sizes}
 use Rattle.pp_ends.specs.Ends.{map_sizes}
 use Rattle.pp_list.specs.Meant.{list_meaning}
 use Rattle.pp_replay.proofs.Unders.{chosen}
-use Rattle.pp_replay.proofs.TableRuns.{pool_room, table_built, table_meant, table_shares, table_sized}
+use Rattle.pp_replay.proofs.PoolRuns.{pool_room}
+use Rattle.pp_replay.proofs.TableRuns.{table_meant, table_shares, table_sized}
 use Rattle.pp_replay.proofs.Finishes.{refused}
 use Rattle.pp_replay.proofs.attempt.run_table.Goals as goal
-
-pub run_shown-shown-requires-clause-built : goal.run_shown-shown-requires-clause-built
-run_shown-shown-requires-clause-built g c κs within = table_built c.args.settings c.args.buckets c.requires.table
 
 pub run_shown-shown-requires-clause-chosen : goal.run_shown-shown-requires-clause-chosen
 run_shown-shown-requires-clause-chosen g c κs within = rw c.in-Ok.ensures.sizes (chosen c.args.settings list_meaning

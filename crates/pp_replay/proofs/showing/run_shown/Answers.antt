@@ -33,7 +33,7 @@ returns g c = λ words before after said_by calls.
     let run = c.requires.chosen.runs _ _ _ _ c.in-Ok.ensures.ran in
     let ends = rw (c.deref.ensures.value, c.contents.ensures, c.in-Ok.ensures.contents) at c.finish-way.ensures in
     cause_of words c.args.settings (map (λ v. v.items) c.args.lists.items) (map (λ v. v.items) c.in-Ok.ran.answers.items)
-    _ before _ after _ said_by c.requires.built calls
+    _ before _ after _ said_by calls
     (under c.args.settings (map g.M.MapCalls.pass_view c.args.passes.items) (map (λ v. v.items) c.args.lists.items)
     (map (λ v. v.items) c.in-Ok.ran.answers.items) _ run
     (λ k v at. let from = mapped_at g.M.MapCalls.pass_view c.args.passes.items k v at in

@@ -1,6 +1,6 @@
 use Rattle.std.proofs.Common.{map}
 use Rattle.pp_replay.proofs.Finishes.{may_run}
-use Rattle.pp_replay.proofs.attempt.attempt_built.Goals as goal
+use Rattle.pp_replay.proofs.attempt.attempt_under.Goals as goal
 
 pub run_chosen-requires-clause-calls : goal.run_chosen-requires-clause-calls
 run_chosen-requires-clause-calls g c κs within =
