@@ -1,5 +1,5 @@
 -- The passes of a scene after one of them made calls.
-use Rattle.std.proofs.Common.{◌≡◌, ℕ, zero, suc, ◌<◌, List, [], ◌∷◌, length, slice_set, refl, sym, ap, ◌∙◌, subst, arith, Some, slice_get}
+use Rattle.std.proofs.Common.{◌≡◌, ℕ, zero, suc, ◌<◌, List, [], ◌∷◌, ◌++◌, length, slice_set, refl, sym, ap, ◌∙◌, subst, arith, Some, slice_get}
 use Rattle.std.proofs.Common.{get_or}
 use Rattle.std.proofs.lemmas.Option.{same_Some, slice_get_read}
 use Rattle.pp_model.specs.Lists.{AtEach}
@@ -20,6 +20,16 @@ each_set P (z ∷ xs) zero y each here zero x at = subst (λ v. P 0 v) (same_Som
 each_set P (z ∷ xs) zero y each here (suc k) x at = each (suc k) x at
 each_set P (z ∷ xs) (suc i) y each here zero x at = each zero x at
 each_set P (z ∷ xs) (suc i) y each here (suc k) x at = each_set (λ j. P (suc j)) xs i y (λ j. each (suc j)) here k x at
+
+-- what is true of each of a list is so of its last one, and of those before
+pub each_before : {A : Type 0} (P : A → Type 0) (xs : List A) (y : A) → AtEach (xs ++ y ∷ []) (λ k x. P x) → AtEach xs (λ k x. P x)
+each_before P [] y each k x at = absurd cc
+each_before P (z ∷ xs) y each zero x at = each zero x at
+each_before P (z ∷ xs) y each (suc k) x at = each_before P xs y (λ j. each (suc j)) k x at
+
+pub each_last : {A : Type 0} (P : A → Type 0) (xs : List A) (y : A) → AtEach (xs ++ y ∷ []) (λ k x. P x) → P y
+each_last P [] y each = each zero y refl
+each_last P (z ∷ xs) y each = each_last P xs y (λ j. each (suc j))
 
 set_long : {A : Type 0} (xs : List A) (i : ℕ) (y : A) → length (slice_set xs i y) ≡ length xs
 set_long [] i y = refl

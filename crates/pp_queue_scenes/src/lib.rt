@@ -4,4 +4,6 @@
 #[cfg(test)]
 mod staging;
 #[cfg(test)]
+mod stalled;
+#[cfg(test)]
 mod tests;

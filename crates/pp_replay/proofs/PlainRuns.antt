@@ -1,8 +1,7 @@
 -- How the plain map starts under settings that choose it.
-use Rattle.std.proofs.Common.{◌≡◌, ℕ, zero, suc, ◌+◌, ◌/◌, ◌%◌, cond, nat_lt, List, [], ◌∷◌, refl, sym, ap, ◌∙◌, arith}
-use Rattle.std.specs.Prelude.{Some, slice_get}
+use Rattle.std.proofs.Common.{◌≡◌, ℕ, zero, suc, ◌+◌, ◌/◌, ◌%◌, cond, nat_lt, [], ◌∷◌, sym, ap, ◌∙◌, arith}
 use Rattle.pp_model.specs.Lists.{AtEach}
-use Rattle.pp_model.specs.Pass.{PassView, MapSizes}
+use Rattle.pp_model.specs.Pass.{PassView}
 use Rattle.pp_model.specs.Plain.{plain_sizes}
 use Rattle.pp_words.specs.declared.Settings.{Settings}
 use Rattle.pp_words.specs.declared.Kind.TheVariants as kind

@@ -1,6 +1,5 @@
 -- How a table starts under settings that choose it.
 use Rattle.std.proofs.Common.{◌≡◌, ℕ, ◌-◌, sym, ap, ◌∙◌, arith, inl, inr}
-use Rattle.pp_model.specs.Pass.{MapSizes}
 use Rattle.pp_rule.specs.Opening.{share_of as pool_share}
 use Rattle.pp_ends.specs.Ends.{map_sizes}
 use Rattle.pp_buckets.specs.Tables.{table_sizes}

@@ -1,5 +1,5 @@
 -- How a tree starts under settings that choose it.
-use Rattle.std.proofs.Common.{◌≡◌, ℕ, ◌-◌, sym, ap}
+use Rattle.std.proofs.Common.{◌≡◌, ℕ, sym, ap}
 use Rattle.pp_rule.specs.Opening.{share_of as pool_share}
 use Rattle.pp_ends.specs.Ends.{map_sizes}
 use Rattle.pp_tree.specs.Trees.{tree_sizes}

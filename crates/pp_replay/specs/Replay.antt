@@ -1,7 +1,6 @@
 -- What the ending of a replay means.
-use Rattle.std.specs.Prelude.{◌≡◌, ℕ, ◌+◌, ◌*◌, ◌-◌, ◌/◌, ◌%◌, ◌≤◌, ◌<◌, ◌⊎◌, cond, nat_lt, List, [], ◌++◌, length, Option, Some, None, codes}
+use Rattle.std.specs.Prelude.{◌≡◌, ℕ, ◌+◌, ◌*◌, ◌-◌, ◌/◌, ◌%◌, ◌≤◌, ◌<◌, ◌⊎◌, cond, nat_lt, List, length, Option, Some, None}
 use Rattle.std.specs.Io.KnownBytes.{Appends}
-use Rattle.std.specs.Fmt.{decimal}
 use Rattle.pp_outside.specs.Outside.{Rose, WasAll, GrewByPrefix}
 use Rattle.pp_devices.specs.declared.ways.Way.{Way}
 use Rattle.pp_devices.specs.declared.ways.Way.TheVariants as way
@@ -19,7 +18,7 @@ use Rattle.pp_tree_turns.specs.Causes.{tree_meaning}
 use Rattle.pp_trace.specs.declared.Make.{Make}
 use Rattle.pp_trace.specs.declared.Why.{Why}
 use Rattle.pp_trace.specs.Grammar.{bad}
-use Rattle.pp_trace.specs.Text.{out, summary, why_text, count_all, is_full, is_lost}
+use Rattle.pp_trace.specs.Text.{out, summary, count_all, is_full, is_lost}
 use Rattle.pp_trace.specs.TraceLists.{IsTrace}
 use Rattle.pp_trace.specs.MadeTrace.{IsMade}
 use Rattle.pp_words.specs.declared.Settings.{Settings}

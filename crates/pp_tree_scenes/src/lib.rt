@@ -13,3 +13,5 @@ mod smallest;
 mod staging;
 #[cfg(test)]
 mod stopped;
+#[cfg(test)]
+mod writers;

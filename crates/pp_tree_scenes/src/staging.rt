@@ -218,6 +218,22 @@ pub(crate) fn end(
     assert!(rt; pass.idle());
 }
 
+/// Makes the last turn of a going call, which gives up: so many of its turns were lost, as many as it may lose.
+pub(crate) fn give_up(
+    rt: &impl Abort,
+    tree: &Tree,
+    pass: &mut Pass<TreeShape>,
+    mut going: TreeGoing,
+    turns: u64,
+)
+    requires going { IsGoing tree.now pass.old going }
+    ensures ready { IsReady tree.now pass.new }
+{
+    assert!(rt; ends(tree, pass, &mut going, Answer::Lost { turns }));
+    assert_eq!(rt; going.lost(), turns);
+    assert!(rt; pass.idle());
+}
+
 /// Makes a reclaim pass, which makes so many records free.
 pub(crate) fn reclaim_so_many(rt: &impl Abort, tree: &Tree, pass: &mut Pass<TreeShape>, count: u32)
     requires ready { IsReady tree.now pass.old }

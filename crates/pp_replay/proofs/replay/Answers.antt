@@ -1,4 +1,3 @@
-use Rattle.std.proofs.Common.{sym}
 use Rattle.pp_replay.proofs.Completeness.{complete}
 use Rattle.pp_replay.proofs.replay.Goals as goal
 

@@ -1,4 +1,4 @@
-use Rattle.std.proofs.Common.{arith, ◌<◌, ◌≤◌, length, map, refl, sym, ap, subst}
+use Rattle.std.proofs.Common.{arith, ◌<◌, ◌≤◌, length, refl, sym, ap}
 use Rattle.std.proofs.lemmas.List.{length-map}
 use Rattle.std.proofs.lemmas.Option.{slice_get_read}
 use Rattle.pp_model.specs.Plain.{plain_meaning, plain_sizes}

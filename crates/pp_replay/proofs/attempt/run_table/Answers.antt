@@ -1,4 +1,4 @@
-use Rattle.std.proofs.Common.{map, ap, ◌∙◌}
+use Rattle.std.proofs.Common.{map, ◌∙◌}
 use Rattle.pp_buckets.specs.Tables.{table_sizes}
 use Rattle.pp_ends.specs.Ends.{map_sizes}
 use Rattle.pp_list.specs.Meant.{list_meaning}

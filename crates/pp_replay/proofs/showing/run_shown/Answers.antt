@@ -1,4 +1,4 @@
-use Rattle.std.proofs.Common.{arith, ◌≡◌, ◌≤◌, ◌∙◌, length, map, ap, sym, subst}
+use Rattle.std.proofs.Common.{arith, ◌∙◌, length, map, ap, sym}
 use Rattle.std.proofs.lemmas.List.{length-map}
 use Rattle.pp_running.proofs.Lists.{mapped_at}
 use Rattle.pp_replay.proofs.Unders.{short, under}
