@@ -20,8 +20,11 @@ plan_why why.Turns = codes "turns"
 abbrev pub plan_line : ℕ → PlanWhy → List ℕ
 plan_line line why = codes "schedule: line " ++ decimal line ++ codes ": " ++ plan_why why ++ codes "\n"
 
+abbrev pub failure_line : List ℕ
+failure_line = codes "runner: failed\n"
+
 -- the line that tells it
 abbrev pub line_of : PolledWay → List ℕ
 line_of (Ended way) = way_line way
 line_of (BadPlan line why) = plan_line line why
-line_of NotRun = codes "runner: failed\n"
+line_of NotRun = failure_line

@@ -100,7 +100,8 @@ fn run_chosen<R: Wait + RandomSource + AllocGlobal, X: Runner, K: Sink>(
     requires calls { AreCalls settings.callers (map (λ v. v.items) input.lists.items) }
     requires plan { AtEach input.plan.items (λ k c. c < settings.callers) }
     ensures { (words : List (List ℕ)) → (before : Device) → (after : Device) → settings_of words ≡ Some settings
-        → HasInput settings.make settings.callers before after (map (λ v. v.items) input.lists.items) input.plan.items → Cause result.way words
+        → HasInput settings.make settings.callers before after (map (λ v. v.items) input.lists.items) input.plan.items
+        → Cause result.way words
         (world before (device (K.written sink.old) (K.faults sink.old))) (world after (device (K.written sink.new) (K.faults sink.new)))
         (X.faults runner.old) (X.faults runner.new) (map (λ v. v.items) result.answers.items) (kept_run result.kept) }
 {
@@ -125,7 +126,8 @@ fn run_plain<R: Wait + RandomSource + AllocGlobal, X: Runner, K: Sink>(
     requires calls { AreCalls settings.callers (map (λ v. v.items) input.lists.items) }
     requires plan { AtEach input.plan.items (λ k c. c < settings.callers) }
     ensures { (words : List (List ℕ)) → (before : Device) → (after : Device) → settings_of words ≡ Some settings
-        → HasInput settings.make settings.callers before after (map (λ v. v.items) input.lists.items) input.plan.items → Cause result.way words
+        → HasInput settings.make settings.callers before after (map (λ v. v.items) input.lists.items) input.plan.items
+        → Cause result.way words
         (world before (device (K.written sink.old) (K.faults sink.old))) (world after (device (K.written sink.new) (K.faults sink.new)))
         (X.faults runner.old) (X.faults runner.new) (map (λ v. v.items) result.answers.items) (kept_run result.kept) }
 {
@@ -159,7 +161,8 @@ fn run_table<R: Wait + RandomSource + AllocGlobal, X: Runner, K: Sink>(
     requires calls { AreCalls settings.callers (map (λ v. v.items) input.lists.items) }
     requires plan { AtEach input.plan.items (λ k c. c < settings.callers) }
     ensures { (words : List (List ℕ)) → (before : Device) → (after : Device) → settings_of words ≡ Some settings
-        → HasInput settings.make settings.callers before after (map (λ v. v.items) input.lists.items) input.plan.items → Cause result.way words
+        → HasInput settings.make settings.callers before after (map (λ v. v.items) input.lists.items) input.plan.items
+        → Cause result.way words
         (world before (device (K.written sink.old) (K.faults sink.old))) (world after (device (K.written sink.new) (K.faults sink.new)))
         (X.faults runner.old) (X.faults runner.new) (map (λ v. v.items) result.answers.items) (kept_run result.kept) }
 {
@@ -188,7 +191,8 @@ fn run_tree<R: Wait + RandomSource + AllocGlobal, X: Runner, K: Sink>(
     requires calls { AreCalls settings.callers (map (λ v. v.items) input.lists.items) }
     requires plan { AtEach input.plan.items (λ k c. c < settings.callers) }
     ensures { (words : List (List ℕ)) → (before : Device) → (after : Device) → settings_of words ≡ Some settings
-        → HasInput settings.make settings.callers before after (map (λ v. v.items) input.lists.items) input.plan.items → Cause result.way words
+        → HasInput settings.make settings.callers before after (map (λ v. v.items) input.lists.items) input.plan.items
+        → Cause result.way words
         (world before (device (K.written sink.old) (K.faults sink.old))) (world after (device (K.written sink.new) (K.faults sink.new)))
         (X.faults runner.old) (X.faults runner.new) (map (λ v. v.items) result.answers.items) (kept_run result.kept) }
 {

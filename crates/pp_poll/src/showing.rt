@@ -64,11 +64,26 @@ where
         (X.faults runner.old) (X.faults runner.new) (map (λ v. v.items) result.answers.items) (shown_run M.run_view result.closed) }
 {
     let Input { lists, plan } = input;
-    let ran = match run_by_plan(rt, alloc, runner, chosen, passes, lists, settings.races, plan) {
+    let ran = match run_by_plan(
+        rt,
+        alloc,
+        runner,
+        chosen,
+        passes,
+        lists,
+        settings.races,
+        plan,
+    ) {
         Ok(ran) => ran,
         Err(fault) => return without_closing(alloc, way_of(fault)),
     };
-    let way = finish(alloc, sink, settings.make, &ran.answers, ran.closed.contents());
+    let way = finish(
+        alloc,
+        sink,
+        settings.make,
+        &ran.answers,
+        ran.closed.contents(),
+    );
     Shown {
         way: PolledWay::Ended(way),
         closed: Some(ran.closed),

@@ -2,7 +2,7 @@
 
 ghost use Rattle.std.specs.Prelude.{◌≡◌, ◌≤◌, length};
 ghost use Rattle.pp_devices.specs.Told.{IsTold};
-ghost use Rattle.pp_poll.specs.PolledWays.{line_of, plan_line, plan_why};
+ghost use Rattle.pp_poll.specs.PolledWays.{line_of, plan_line, plan_why, failure_line};
 
 use crate::ways::PolledWay;
 use arrayvec::ArrayString;
@@ -21,12 +21,22 @@ pub fn tell_way<E: Sink>(errs: &mut E, way: PolledWay)
 {
     match way {
         PolledWay::Ended(way) => tell(errs, way),
-        PolledWay::BadPlan { line, why } => {
-            let text = plan_text(line, why);
-            tell_line(errs, text.as_str().as_bytes());
-        }
-        PolledWay::NotRun => tell_line(errs, b"runner: failed\n".as_slice()),
+        PolledWay::BadPlan { line, why } => tell_plan(errs, line, why),
+        PolledWay::NotRun => tell_failure(errs),
     }
+}
+
+fn tell_plan<E: Sink>(errs: &mut E, number: u32, why: PlanWhy)
+    ensures { IsTold E.written E.faults E.Writes errs.old errs.new (plan_line number why) }
+{
+    let line = plan_text(number, why);
+    tell_line(errs, line.as_str().as_bytes());
+}
+
+fn tell_failure<E: Sink>(errs: &mut E)
+    ensures { IsTold E.written E.faults E.Writes errs.old errs.new failure_line }
+{
+    tell_line(errs, "runner: failed\n".as_bytes());
 }
 
 fn plan_text(number: u32, why: PlanWhy) -> ArrayString<LINE>

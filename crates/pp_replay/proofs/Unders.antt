@@ -120,6 +120,7 @@ module _ (settings : Settings) (opened : List PassView) (lists : List (List Call
   }
 
   pub under_opened : (shares : AtEach opened (λ c p. p.share ≡ share_of settings.map (sizes_of settings) c)) → (under shares).opened ≡ opened
+  unfolding under
   under_opened shares = refl
 
   -- one answer a call
