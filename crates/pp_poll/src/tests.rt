@@ -25,7 +25,7 @@ fn words_of(alloc: Global, line: &str) -> Result<Vec<String>, Fail> {
 }
 
 /// A replay by a plan with a source and sinks in memory.
-fn shown<R: Wait + RandomSource + AllocGlobal, X: Runner>(
+fn replayed<R: Wait + RandomSource + AllocGlobal, X: Runner>(
     rt: &R,
     alloc: Global,
     line: &str,
@@ -94,10 +94,10 @@ fn plans_order_the_turns(rt: HostRuntime) -> Result<(), Fail> {
         ),
     ];
     for (line, input, status, sink, errs) in rows {
-        let shown = shown(&rt, rt.alloc(), line, &mut BlockOn::new(), input)?;
-        assert_eq!(rt; shown.errs.as_slice(), errs);
-        assert_eq!(rt; shown.sink.as_slice(), sink);
-        assert_eq!(rt; shown.status, status);
+        let ended = replayed(&rt, rt.alloc(), line, &mut BlockOn::new(), input)?;
+        assert_eq!(rt; ended.errs.as_slice(), errs);
+        assert_eq!(rt; ended.sink.as_slice(), sink);
+        assert_eq!(rt; ended.status, status);
     }
     Ok(())
 }
@@ -105,9 +105,9 @@ fn plans_order_the_turns(rt: HostRuntime) -> Result<(), Fail> {
 #[test]
 fn a_runner_fails(rt: HostRuntime) -> Result<(), Fail> {
     let line = "--map list --callers 2";
-    let shown = shown(&rt, rt.alloc(), line, &mut NoRunner::new(), LIST)?;
-    assert_eq!(rt; shown.errs.as_slice(), b"runner: failed\n".as_slice());
-    assert_eq!(rt; shown.sink.len(), 0);
-    assert_eq!(rt; shown.status, 13);
+    let ended = replayed(&rt, rt.alloc(), line, &mut NoRunner::new(), LIST)?;
+    assert_eq!(rt; ended.errs.as_slice(), b"runner: failed\n".as_slice());
+    assert_eq!(rt; ended.sink.len(), 0);
+    assert_eq!(rt; ended.status, 13);
     Ok(())
 }
