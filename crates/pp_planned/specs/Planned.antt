@@ -6,8 +6,8 @@ use Rattle.pp_model.specs.MapCalls.{caller_run}
 use Rattle.pp_outside.specs.Outside.{Rose}
 use Rattle.pp_schedule.specs.Calls.{CallerAt}
 use Rattle.pp_schedule.specs.Plays.{Moment, Plays, RunsByPlan}
-use Rattle.pp_planned.specs.declared.PlanFault.{PlanFault}
-use Rattle.pp_planned.specs.declared.PlanFault.TheVariants.{Failed, NoMemory}
+use Rattle.pp_planned.specs.declared.PlannedFault.{PlannedFault}
+use Rattle.pp_planned.specs.declared.PlannedFault.TheVariants.{Failed, NoMemory}
 
 -- what stands in a list of options
 abbrev pub somes : {A : Type 0} → List (Option A) → List A
@@ -40,6 +40,6 @@ pub record IsPlanned (meaning : Meaning) (sizes : MapSizes) (races : ℕ) (plan 
   pub by_plan : RunsByPlan meaning.turn_steps (length lists) plan turns run.log run.order
 
 -- the fault is the runner's only where its count of faults rose
-abbrev pub IsRunnersFault : ℕ → ℕ → PlanFault → Type 0
+abbrev pub IsRunnersFault : ℕ → ℕ → PlannedFault → Type 0
 IsRunnersFault before after Failed = Rose before after
 IsRunnersFault before after NoMemory = after ≡ before

@@ -22,7 +22,7 @@ use std::sync::Wait;
 
 /// Why a run by a plan gave nothing.
 #[derive(Clone, Copy, Debug, PartialEq, Eq)]
-pub enum PlanFault {
+pub enum PlannedFault {
     /// The runner failed.
     Failed,
     /// There was no memory for the answers or for closing.
@@ -45,7 +45,7 @@ pub fn run_by_plan<R: Wait + RandomSource + AllocGlobal, X: Runner, M: MapCalls 
     lists: Vec<Vec<Call>>,
     races: u64,
     plan: Vec<u32>,
-) -> Result<Ran<M::Witness>, PlanFault>
+) -> Result<Ran<M::Witness>, PlannedFault>
 where
     M::Pass: Drop,
     M::Going: Drop,
@@ -71,16 +71,16 @@ where
     let mut passes = passes;
     let note = first_note(&chosen, &mut passes);
     let Ok(callers) = callers_of(alloc, passes, lists) else {
-        return Err(PlanFault::NoMemory);
+        return Err(PlannedFault::NoMemory);
     };
     let Ok(callers) = play(rt, alloc, runner, &chosen, races, plan, callers, note) else {
-        return Err(PlanFault::Failed);
+        return Err(PlannedFault::Failed);
     };
     let Ok((passes, answers)) = parts_of(alloc, callers) else {
-        return Err(PlanFault::NoMemory);
+        return Err(PlannedFault::NoMemory);
     };
     match chosen.close(alloc, passes) {
         Ok(closed) => Ok(Ran { answers, closed }),
-        Err(_) => Err(PlanFault::NoMemory),
+        Err(_) => Err(PlannedFault::NoMemory),
     }
 }

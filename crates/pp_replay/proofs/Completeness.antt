@@ -17,11 +17,11 @@ use Rattle.pp_devices.specs.Ways.{status_of}
 use Rattle.pp_replay.specs.Replay.{Cause, HasBadLine, IsGood, IsAnswered}
 
 -- a source that tells its bytes gave these
-gave_all : (old new : Option (List ℕ)) (own bytes : List ℕ) → old ≡ Some own → WasAll old new bytes → own ≡ bytes
+pub gave_all : (old new : Option (List ℕ)) (own bytes : List ℕ) → old ≡ Some own → WasAll old new bytes → own ≡ bytes
 gave_all old new own bytes tells all =
     rw tells at (Consumes-whole old new bytes (λ l. l ≡ bytes) all.consumed all.end refl)
 
-gave_part : (old new : Option (List ℕ)) (own bytes : List ℕ) → old ≡ Some own → Consumes old new bytes → length bytes ≤ length own
+pub gave_part : (old new : Option (List ℕ)) (own bytes : List ℕ) → old ≡ Some own → Consumes old new bytes → length bytes ≤ length own
 gave_part None new own bytes tells gave = absurd cc
 gave_part (Some xs) None own bytes tells gave = absurd gave
 gave_part (Some xs) (Some ys) own bytes tells gave =

@@ -119,6 +119,10 @@ module _ (settings : Settings) (opened : List PassView) (lists : List (List Call
     none_lost = none_lost;
   }
 
+  pub under_opened : (shares : AtEach opened (λ c p. p.share ≡ share_of settings.map (sizes_of settings) c)) → (under shares).opened ≡ opened
+  unfolding under
+  under_opened shares = refl
+
   -- one answer a call
   pub short : InRange settings → length lists ≡ settings.callers → AtEach lists (λ c calls. length calls ≤ 16777216) → AreShort answers
   short within count each = record {

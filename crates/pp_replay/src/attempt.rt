@@ -5,22 +5,20 @@ ghost use Rattle.pp_words.specs.declared.Kind.TheVariants as Kind;
 ghost use Rattle.pp_words.specs.Words.{settings_of, InRange};
 ghost use Rattle.pp_replay.specs.declared.ending.Kept.TheVariants as Kept;
 ghost use Rattle.pp_running.specs.Jobs.{AreCalls};
-ghost use Rattle.pp_replay.specs.View.{kept_run, plain_kept_run, pool_kept_run, shown_run};
+ghost use Rattle.pp_replay.specs.View.{kept_run};
 ghost use Rattle.pp_devices.specs.Devices.{Device, device, world};
 ghost use Rattle.pp_replay.specs.Parts.{IsTable};
 ghost use Rattle.pp_replay.specs.Replay.{Cause, HasCalls};
 
 use crate::Kept;
 use crate::calls::take_calls;
+use crate::ending::{kept_plain, kept_table, kept_tree};
 use crate::showing::run_shown;
 use pp_buckets::Buckets;
 use pp_devices::Way;
-use pp_edges::TreeShape;
-use pp_model::{Answer, Call, Closed, PlainKept, PlainMap};
+use pp_model::{Answer, Call, PlainMap};
 use pp_outside::{Gate, Sink, Source};
-use pp_pool::closing::Witness;
 use pp_tree::Tree;
-use pp_walk::ListShape;
 use pp_words::words::settings;
 use pp_words::{Kind, Settings, WordsFault};
 use std::alloc::Global;
@@ -140,15 +138,6 @@ fn run_plain<R: Threads + Sync, K: Sink, G: Gate + Sync>(
     }
 }
 
-fn kept_plain(closed: Option<Closed<PlainKept>>) -> Kept
-    ensures { kept_run result ≡ shown_run plain_kept_run closed }
-{
-    match closed {
-        Some(closed) => Kept::Plain(closed),
-        None => Kept::Nothing,
-    }
-}
-
 /// Runs a list or a hash table: a table of so many buckets.
 fn run_table<R: Threads + Sync, K: Sink, G: Gate + Sync>(
     rt: &R,
@@ -179,15 +168,6 @@ fn run_table<R: Threads + Sync, K: Sink, G: Gate + Sync>(
     }
 }
 
-fn kept_table(closed: Option<Closed<Witness<ListShape>>>) -> Kept
-    ensures { kept_run result ≡ shown_run pool_kept_run closed }
-{
-    match closed {
-        Some(closed) => Kept::Table(closed),
-        None => Kept::Nothing,
-    }
-}
-
 fn run_tree<R: Threads + Sync, K: Sink, G: Gate + Sync>(
     rt: &R,
     alloc: Global,
@@ -212,14 +192,5 @@ fn run_tree<R: Threads + Sync, K: Sink, G: Gate + Sync>(
         way: shown.way,
         kept: kept_tree(shown.closed),
         answers: shown.answers,
-    }
-}
-
-fn kept_tree(closed: Option<Closed<Witness<TreeShape>>>) -> Kept
-    ensures { kept_run result ≡ shown_run pool_kept_run closed }
-{
-    match closed {
-        Some(closed) => Kept::Tree(closed),
-        None => Kept::Nothing,
     }
 }

@@ -2,6 +2,7 @@
 
 ghost use Rattle.std.specs.Prelude.{◌≡◌, List, map};
 ghost use Rattle.pp_devices.specs.Ways.{status_of};
+ghost use Rattle.pp_replay.specs.View.{kept_run, plain_kept_run, pool_kept_run, shown_run};
 
 use crate::attempt::Attempt;
 use pp_edges::TreeShape;
@@ -21,6 +22,36 @@ pub enum Kept {
     Table(Closed<Witness<ListShape>>),
     /// A tree's: the run of its pool.
     Tree(Closed<Witness<TreeShape>>),
+}
+
+/// The closed plain map of a run, where there was one.
+pub fn kept_plain(closed: Option<Closed<PlainKept>>) -> Kept
+    ensures { kept_run result ≡ shown_run plain_kept_run closed }
+{
+    match closed {
+        Some(closed) => Kept::Plain(closed),
+        None => Kept::Nothing,
+    }
+}
+
+/// The closed list or hash table of a run, where there was one.
+pub fn kept_table(closed: Option<Closed<Witness<ListShape>>>) -> Kept
+    ensures { kept_run result ≡ shown_run pool_kept_run closed }
+{
+    match closed {
+        Some(closed) => Kept::Table(closed),
+        None => Kept::Nothing,
+    }
+}
+
+/// The closed tree of a run, where there was one.
+pub fn kept_tree(closed: Option<Closed<Witness<TreeShape>>>) -> Kept
+    ensures { kept_run result ≡ shown_run pool_kept_run closed }
+{
+    match closed {
+        Some(closed) => Kept::Tree(closed),
+        None => Kept::Nothing,
+    }
 }
 
 /// The ending of a replay. Contracts see its status, the callers' answers, and the run of the map that was closed.

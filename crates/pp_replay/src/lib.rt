@@ -8,8 +8,8 @@ ghost use Rattle.pp_replay.specs.Replay.{IsEnding, IsGood, IsAnswered};
 
 mod attempt;
 mod calls;
-mod ending;
-mod printing;
+pub mod ending;
+pub mod printing;
 mod showing;
 
 pub use ending::{Ending, Kept};

@@ -1,0 +1,35 @@
+use Rattle.std.proofs.Common.{map, ap, ◌∙◌}
+use Rattle.pp_buckets.specs.Tables.{table_sizes}
+use Rattle.pp_ends.specs.Ends.{map_sizes}
+use Rattle.pp_list.specs.Meant.{list_meaning}
+use Rattle.pp_replay.proofs.PoolRuns.{pool_room}
+use Rattle.pp_replay.proofs.TableRuns.{table_meant, table_shares, table_sized}
+use Rattle.pp_poll.proofs.Finishes.{refused, chosen_to_poll}
+use Rattle.pp_poll.proofs.attempt.run_table.Goals as goal
+
+pub run_shown-shown-requires-clause-chosen : goal.run_shown-shown-requires-clause-chosen
+run_shown-shown-requires-clause-chosen g c = rw c.in-Ok.ensures.sizes (chosen_to_poll c.args.settings list_meaning
+    (map_sizes (table_sizes c.args.settings.callers c.args.settings.records c.args.buckets))
+    (table_meant c.args.settings c.args.buckets c.requires.table) (table_sized c.args.settings c.args.buckets c.requires.table))
+
+pub run_shown-shown-requires-clause-passes : goal.run_shown-shown-requires-clause-passes
+run_shown-shown-requires-clause-passes g c = λ k p at. (
+  c.in-Ok.ensures.belong k p at,
+  c.in-Ok.ensures.rest k p at,
+  record { fresh = c.in-Ok.ensures.fresh k p at; caller = c.in-Ok.ensures.callers k p at },
+)
+
+pub run_shown-shown-requires-clause-shares : goal.run_shown-shown-requires-clause-shares
+run_shown-shown-requires-clause-shares g c = λ k p at.
+    c.in-Ok.ensures.share k p at ∙ table_shares c.args.settings c.args.buckets c.requires.table k
+
+pub run_shown-shown-requires-clause-room : goal.run_shown-shown-requires-clause-room
+run_shown-shown-requires-clause-room g c =
+    pool_room c.in-Ok.passes.items (map (λ v. v.items) c.args.input.lists.items) c.requires.calls.short
+
+pub returns-in_default : goal.returns-in_default
+returns-in_default g c = λ words before after said_by input.
+    refused words c.args.settings _ _ before after _ _ _ _ _ _ said_by input c.without_run.ensures.0
+
+pub returns : goal.returns
+returns g c = λ words before after said_by input. rw c.kept_table.ensures (c.run_shown-shown.ensures words before after said_by input)

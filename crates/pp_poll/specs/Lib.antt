@@ -1,0 +1,4 @@
+pub mod PolledWays
+pub mod Polled
+pub mod Parts
+pub mod View
