@@ -32,8 +32,8 @@ const AGAIN_OUT: &[u8] =
     b"0 1 added\n0 2 added\n0 3 added\n0 4 added\n0 5 added\n0 6 added\n0 7 added\n0 8 added\n0 9 full\n0 10 took 1\n0 11 added\ncontents 8\n2 2\n3 3\n4 4\n5 5\n6 6\n7 7\n8 8\n9 9\n";
 
 #[test]
-fn replays_end_as_worked_by_hand(rt: HostRuntime) -> Result<(), Fail> {
-    let rows: [(&str, &[u8], u8, &[u8], &[u8]); 53] = [
+fn the_plain_map_replays_as_worked_by_hand(rt: HostRuntime) -> Result<(), Fail> {
+    let rows: [(&str, &[u8], u8, &[u8], &[u8]); 23] = [
         ("--map plain", b"", 0, b"contents 0\n", b""),
         ("--map plain", SMALL, 0, SMALL_OUT, b""),
         ("--map plain", b"0", 2, b"", b"trace: line 1: word\n"),
@@ -135,10 +135,22 @@ fn replays_end_as_worked_by_hand(rt: HostRuntime) -> Result<(), Fail> {
             b"",
             b"trace: line 2: caller\n",
         ),
+    ];
+    for (line, trace, status, sink, errs) in rows {
+        let got = replayed(&rt, rt.alloc(), line, trace, &SOUND, &NoGate)?;
+        assert_eq!(rt; got.status, status, "{line}");
+        assert_eq!(rt; got.sink.as_slice(), sink, "{line}");
+        assert_eq!(rt; got.errs.as_slice(), errs, "{line}");
+    }
+    Ok(())
+}
+
+#[test]
+fn lists_and_hash_tables_replay_as_worked_by_hand(rt: HostRuntime) -> Result<(), Fail> {
+    let rows: [(&str, &[u8], u8, &[u8], &[u8]); 14] = [
         ("--map hash", b"", 0, b"contents 0\n", b""),
         ("--map list --callers 1", SMALL, 0, SMALL_OUT, b""),
         ("--map hash --callers 1", SMALL, 0, SMALL_OUT, b""),
-        ("--map tree --callers 1", SMALL, 0, SMALL_OUT, b""),
         (
             "--map list --callers 1",
             SECOND_FORM,
@@ -152,41 +164,6 @@ fn replays_end_as_worked_by_hand(rt: HostRuntime) -> Result<(), Fail> {
             0,
             SECOND_FORM_OUT,
             b"",
-        ),
-        (
-            "--map tree --callers 1",
-            SECOND_FORM,
-            0,
-            SECOND_FORM_OUT,
-            b"",
-        ),
-        (
-            "--map tree",
-            b"0 insert 18446744073709551612 1\n",
-            0,
-            b"0 1 added\ncontents 1\n18446744073709551612 1\n",
-            b"",
-        ),
-        (
-            "--map tree",
-            b"0 insert 18446744073709551613 1\n",
-            2,
-            b"",
-            b"trace: line 1: key\n",
-        ),
-        (
-            "--map tree --callers 2",
-            b"0 insert 1 10\n1 insert 2 20\n1 get 2\n0 get 1\n",
-            0,
-            b"0 1 added\n0 2 value 10\n1 1 added\n1 2 value 20\ncontents 2\n1 10\n2 20\n",
-            b"",
-        ),
-        (
-            "--map tree --records 8 --callers 1",
-            b"0 insert 1 1\n0 insert 2 2\n",
-            6,
-            b"0 1 added\n0 2 full\ncontents 1\n1 1\n",
-            b"answers: 1 full, 0 lost\n",
         ),
         (
             "--map list",
@@ -245,46 +222,84 @@ fn replays_end_as_worked_by_hand(rt: HostRuntime) -> Result<(), Fail> {
             b"0 1 added\n0 2 value 10\n1 1 added\n1 2 value 20\ncontents 2\n1 10\n2 20\n",
             b"",
         ),
-        ("", SMALL, 1, b"", b"words: refused\n"),
-        (
-            "--map plain --map plain",
-            SMALL,
-            1,
-            b"",
-            b"words: refused\n",
-        ),
-        (
-            "--map hash --callers=65",
-            SMALL,
-            1,
-            b"",
-            b"words: refused\n",
-        ),
-        (
-            "--map plain --callers 2",
-            SMALL,
-            1,
-            b"",
-            b"words: refused\n",
-        ),
-        ("--map hash --", SMALL, 1, b"", b"words: refused\n"),
-        ("--map hash --map tree", SMALL, 1, b"", b"words: refused\n"),
-        ("--map hash --callers 0", SMALL, 1, b"", b"words: refused\n"),
-        (
-            "--map hash --callers +4",
-            SMALL,
-            1,
-            b"",
-            b"words: refused\n",
-        ),
-        ("--map hash more", SMALL, 1, b"", b"words: refused\n"),
-        ("--help", SMALL, 1, b"", b"words: refused\n"),
     ];
     for (line, trace, status, sink, errs) in rows {
         let got = replayed(&rt, rt.alloc(), line, trace, &SOUND, &NoGate)?;
         assert_eq!(rt; got.status, status, "{line}");
         assert_eq!(rt; got.sink.as_slice(), sink, "{line}");
         assert_eq!(rt; got.errs.as_slice(), errs, "{line}");
+    }
+    Ok(())
+}
+
+#[test]
+fn trees_replay_as_worked_by_hand(rt: HostRuntime) -> Result<(), Fail> {
+    let rows: [(&str, &[u8], u8, &[u8], &[u8]); 6] = [
+        ("--map tree --callers 1", SMALL, 0, SMALL_OUT, b""),
+        (
+            "--map tree --callers 1",
+            SECOND_FORM,
+            0,
+            SECOND_FORM_OUT,
+            b"",
+        ),
+        (
+            "--map tree",
+            b"0 insert 18446744073709551612 1\n",
+            0,
+            b"0 1 added\ncontents 1\n18446744073709551612 1\n",
+            b"",
+        ),
+        (
+            "--map tree",
+            b"0 insert 18446744073709551613 1\n",
+            2,
+            b"",
+            b"trace: line 1: key\n",
+        ),
+        (
+            "--map tree --callers 2",
+            b"0 insert 1 10\n1 insert 2 20\n1 get 2\n0 get 1\n",
+            0,
+            b"0 1 added\n0 2 value 10\n1 1 added\n1 2 value 20\ncontents 2\n1 10\n2 20\n",
+            b"",
+        ),
+        (
+            "--map tree --records 8 --callers 1",
+            b"0 insert 1 1\n0 insert 2 2\n",
+            6,
+            b"0 1 added\n0 2 full\ncontents 1\n1 1\n",
+            b"answers: 1 full, 0 lost\n",
+        ),
+    ];
+    for (line, trace, status, sink, errs) in rows {
+        let got = replayed(&rt, rt.alloc(), line, trace, &SOUND, &NoGate)?;
+        assert_eq!(rt; got.status, status, "{line}");
+        assert_eq!(rt; got.sink.as_slice(), sink, "{line}");
+        assert_eq!(rt; got.errs.as_slice(), errs, "{line}");
+    }
+    Ok(())
+}
+
+#[test]
+fn words_that_say_no_settings_are_refused(rt: HostRuntime) -> Result<(), Fail> {
+    let lines = [
+        "",
+        "--map plain --map plain",
+        "--map hash --callers=65",
+        "--map plain --callers 2",
+        "--map hash --",
+        "--map hash --map tree",
+        "--map hash --callers 0",
+        "--map hash --callers +4",
+        "--map hash more",
+        "--help",
+    ];
+    for line in lines {
+        let got = replayed(&rt, rt.alloc(), line, SMALL, &SOUND, &NoGate)?;
+        assert_eq!(rt; got.status, 1, "{line}");
+        assert_eq!(rt; got.sink.len(), 0, "{line}");
+        assert_eq!(rt; got.errs.as_slice(), b"words: refused\n".as_slice(), "{line}");
     }
     Ok(())
 }
