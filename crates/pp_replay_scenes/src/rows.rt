@@ -299,7 +299,11 @@ fn words_that_say_no_settings_are_refused(rt: HostRuntime) -> Result<(), Fail> {
         let got = replayed(&rt, rt.alloc(), line, SMALL, &SOUND, &NoGate)?;
         assert_eq!(rt; got.status, 1, "{line}");
         assert_eq!(rt; got.sink.len(), 0, "{line}");
-        assert_eq!(rt; got.errs.as_slice(), b"words: refused\n".as_slice(), "{line}");
+        assert_eq!(rt;
+            got.errs.as_slice(),
+            b"words: refused\n".as_slice(),
+            "{line}"
+        );
     }
     Ok(())
 }
