@@ -83,7 +83,7 @@ times_in-append : (b : ℕ) (bytes ms ns : List ℕ) → times_in b bytes (ms ++
 times_in-append b bytes [] ns = omega arith
 times_in-append b bytes (m ∷ ms) ns = let rest = times_in-append b bytes ms ns in omega arith
 
-times_in-le : (b : ℕ) (bytes ns : List ℕ) → times_in b bytes ns ≤ 4096 * length ns
+pub times_in-le : (b : ℕ) (bytes ns : List ℕ) → times_in b bytes ns ≤ 4096 * length ns
 times_in-le b bytes [] = omega arith
 times_in-le b bytes (n ∷ ns) = let rest = times_in-le b bytes ns in let here = times-le b (piece bytes n) in
     let few = piece-short bytes n in omega arith

@@ -21,7 +21,7 @@ pub fn count_bytes(counts: &mut [u32], bytes: &[u8])
 }
 
 /// Counts the bytes of the piece with this number too.
-fn count_piece(counts: &mut [u32], bytes: &[u8], number: u32)
+pub(crate) fn count_piece(counts: &mut [u32], bytes: &[u8], number: u32)
     requires all { length counts.old ≡ 256 }
     requires short { length bytes.now ≤ 16777216 }
     requires there { number < pieces_of (length bytes.now) }
@@ -32,7 +32,7 @@ fn count_piece(counts: &mut [u32], bytes: &[u8], number: u32)
 }
 
 /// Whether the answer says that a claim was won.
-fn is_won(answer: &Answer) -> bool
+pub(crate) fn is_won(answer: &Answer) -> bool
     ensures { result ≡ is_added answer.now }
 {
     match answer {
@@ -44,7 +44,7 @@ fn is_won(answer: &Answer) -> bool
 }
 
 /// The key of a call.
-fn key_in(call: &Call) -> u64
+pub(crate) fn key_in(call: &Call) -> u64
     ensures { result ≡ key_of call.now }
 {
     match call {

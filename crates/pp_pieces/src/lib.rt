@@ -3,4 +3,5 @@
 
 pub mod claims;
 pub mod counting;
+pub mod leaving;
 pub mod pieces;
