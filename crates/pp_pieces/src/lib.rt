@@ -5,3 +5,5 @@ pub mod claims;
 pub mod counting;
 pub mod leaving;
 pub mod pieces;
+#[cfg(test)]
+mod tests;
