@@ -1,5 +1,4 @@
-use Rattle.std.proofs.Common.{◌≡◌, ◌+◌, arith, ℕ, Bool, List, ◌++◌, length, take, subst, sym, ap, ◌∙◌}
-use Rattle.std.specs.Prelude.{drop}
+use Rattle.std.proofs.Common.{◌≡◌, arith, ℕ, List, subst, sym, ap, ◌∙◌}
 use Rattle.pp_pieces.specs.Counts.{CountedIn}
 use Rattle.pp_pieces.specs.Left.{left}
 use Rattle.pp_claims.specs.Rest.{MayMark, owned_of, left_over}
