@@ -3,7 +3,6 @@ use Rattle.std.specs.Prelude.{◌≡◌, ℕ, ◌+◌, ◌^◌, ◌<◌, Bool, t
 use Rattle.pp_model.specs.declared.Answer.{Answer}
 use Rattle.pp_model.specs.declared.Answer.TheVariants.{Said, Full, Lost}
 use Rattle.pp_model.specs.declared.Call.{Call}
-use Rattle.pp_model.specs.declared.Reply.{Reply}
 use Rattle.pp_model.specs.declared.Reply.TheVariants.{Value, Absent, Added, Held, Took, Other}
 use Rattle.pp_model.specs.Calls.{key_of}
 use Rattle.pp_model.specs.Lists.{times}

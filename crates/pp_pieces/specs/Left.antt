@@ -1,5 +1,5 @@
 -- The pieces that nobody owns.
-use Rattle.std.specs.Prelude.{◌≡◌, ℕ, ◌+◌, ◌<◌, ◌||◌, Bool, true, false, cond, nat_eq, List, [], ◌∷◌, length, get_or}
+use Rattle.std.specs.Prelude.{◌≡◌, ℕ, ◌+◌, ◌<◌, ◌||◌, Bool, false, cond, nat_eq, List, [], ◌∷◌, length, get_or}
 
 -- whether a number is among these
 abbrev pub has : ℕ → List ℕ → Bool

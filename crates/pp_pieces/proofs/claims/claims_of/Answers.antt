@@ -1,4 +1,4 @@
-use Rattle.std.proofs.Common.{◌≡◌, ◌∙◌}
+use Rattle.std.proofs.Common.{◌∙◌}
 use Rattle.pp_pieces.specs.Claims.{claim}
 use Rattle.pp_pieces.proofs.Bytes.{map-more}
 use Rattle.pp_pieces.proofs.claims.claims_of.Goals as goal

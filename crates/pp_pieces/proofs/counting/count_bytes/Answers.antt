@@ -1,4 +1,4 @@
-use Rattle.std.proofs.Common.{◌≡◌, ◌<◌, ◌+◌, length, take, get_or, set, ℕ, List, [], ◌∷◌, ◌++◌, rules, arith, subst, sym, ap, ◌∙◌}
+use Rattle.std.proofs.Common.{◌<◌, ◌+◌, take, get_or, set, ℕ, List, [], ◌∷◌, ◌++◌, rules, arith, subst, sym, ap, ◌∙◌}
 use Rattle.std.proofs.lemmas.List.{take_more, length-take-le}
 use Rattle.pp_pieces.specs.Counts.{Counted}
 use Rattle.pp_pieces.proofs.Bytes.{counted-more, counted-le}

@@ -1,4 +1,4 @@
-use Rattle.std.proofs.Common.{◌≡◌, ◌<◌, ◌+◌, length, arith, ap}
+use Rattle.std.proofs.Common.{length, arith, ap}
 use Rattle.pp_pieces.proofs.Bytes.{piece-short}
 use Rattle.pp_pieces.proofs.counting.count_piece.Goals as goal
 

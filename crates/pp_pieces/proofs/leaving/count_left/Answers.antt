@@ -1,4 +1,4 @@
-use Rattle.std.proofs.Common.{◌≡◌, ◌<◌, ◌≤◌, ◌+◌, length, take, get_or, ℕ, Bool, false, cond, List, [], ◌∷◌, ◌++◌, rules, arith, subst, sym, ap, ◌∙◌}
+use Rattle.std.proofs.Common.{◌<◌, length, take, get_or, ℕ, false, cond, List, [], ◌∷◌, rules, arith, subst, sym}
 use Rattle.std.proofs.lemmas.List.{take_more, length-take-le}
 use Rattle.pp_pieces.specs.Counts.{CountedIn}
 use Rattle.pp_pieces.specs.Left.{left}

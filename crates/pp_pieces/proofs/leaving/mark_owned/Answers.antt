@@ -1,4 +1,4 @@
-use Rattle.std.proofs.Common.{◌≡◌, ◌<◌, ◌≤◌, ◌+◌, length, take, get_or, ℕ, List, [], ◌∷◌, ◌++◌, rules, arith, subst, sym, ap, ◌∙◌}
+use Rattle.std.proofs.Common.{◌<◌, length, take, get_or, ℕ, List, [], ◌∷◌, rules, arith, subst, sym, ◌∙◌}
 use Rattle.std.proofs.lemmas.List.{take_more, length-take-le}
 use Rattle.pp_model.specs.declared.Answer.TheVariants.{Said}
 use Rattle.pp_model.specs.declared.Call.TheVariants.{Get}
