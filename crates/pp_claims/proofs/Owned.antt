@@ -1,5 +1,6 @@
 -- The pieces that callers own, and those that nobody does.
-use Rattle.std.proofs.Common.{◌≡◌, ℕ, zero, suc, ◌+◌, ◌<◌, Bool, false, cond, List, [], ◌∷◌, ◌++◌, length, replicate, get_or, refl, sym, ap, ◌∙◌}
+use Rattle.std.proofs.Common.{◌≡◌, ℕ, zero, suc, ◌+◌, ◌<◌, Bool, false, cond, List, [], ◌∷◌, ◌++◌, length, replicate, get_or}
+use Rattle.std.proofs.Common.{refl, sym, ap, ◌∙◌}
 use Rattle.std.proofs.Common.{arith, append_assoc, append-nil, take}
 use Rattle.std.proofs.Math.Seq.{take-append_seam}
 use Rattle.std.specs.Prelude.{◌||◌}
@@ -38,14 +39,16 @@ long_replicate (suc count) x = let rest = long_replicate count x in omega arith
 
 pub marked_left : (count : ℕ) (old taken : List Bool) (ns : List ℕ) → old ≡ replicate count false → Marked old taken ns
     → left 0 taken ≡ left_over 0 count ns
-marked_left count old taken ns is m = let long : length taken ≡ count = m.long ∙ (ap (λ (l : List Bool). length l) is ∙ long_replicate count false) in
+marked_left count old taken ns is m = let long : length taken ≡ count = m.long ∙
+    (ap (λ (l : List Bool). length l) is ∙ long_replicate count false) in
     let old_long = m.long in
     left_by 0 taken ns (λ n lt. let zero_is : n ≡ 0 + n = omega arith in m.each n (omega (arith, old_long, lt))
     ∙ (ap (λ (l : List Bool). get_or l n false || has n ns) is ∙ (ap (λ (b : Bool). b || has n ns) (none_marked count n)
     ∙ ap (λ (k : ℕ). has k ns) zero_is)))
     ∙ ap (λ (n : ℕ). left_over 0 n ns) long
 
-pub long_marked : (count : ℕ) (old taken : List Bool) (ns : List ℕ) → old ≡ replicate count false → Marked old taken ns → length taken ≡ count
+pub long_marked : (count : ℕ) (old taken : List Bool) (ns : List ℕ) → old ≡ replicate count false → Marked old taken ns
+    → length taken ≡ count
 long_marked count old taken ns is m = m.long ∙ (ap (λ (l : List Bool). length l) is ∙ long_replicate count false)
 
 -- so many zeros

@@ -47,7 +47,8 @@ marked-one old k within = record {
       ∙ (or_false (get_or old n false) ∙ ap (λ (c : Bool). get_or old n false || (c || false)) (sym (ne_eqb k n other))));
 }
 
-left_step : (taken : Bool) (low n : ℕ) (ms ns : List ℕ) → low ≡ n → cond taken (ms ++ ns) (low ∷ (ms ++ ns)) ≡ cond taken ms (low ∷ ms) ++ ns
+left_step : (taken : Bool) (low n : ℕ) (ms ns : List ℕ) → low ≡ n → cond taken (ms ++ ns) (low ∷ (ms ++ ns)) ≡ cond taken ms
+    (low ∷ ms) ++ ns
 left_step true low n ms ns same = refl
 left_step false low n ms ns same = refl
 

@@ -13,7 +13,8 @@ pub count_left-requires-clause-room : goal.count_left-requires-clause-room
 count_left-requires-clause-room c = empty_room c.as_mut_slice-2.result.now (c.as_mut_slice-2.ensures.value ∙ c.in_ok-counts.ensures)
 
 pub returns : goal.returns
-returns c = let is = c.as_mut_slice.ensures.value ∙ c.in_ok-taken.ensures in let taken = c.mark_all.new.taken in let new = c.count_left.new.counts in
+returns c = let is = c.as_mut_slice.ensures.value ∙ c.in_ok-taken.ensures in let taken = c.mark_all.new.taken in
+    let new = c.count_left.new.counts in
     let zero = c.as_mut_slice-2.ensures.value ∙ c.in_ok-counts.ensures in let bytes = c.args.bytes.now in
     let ns = owned_of c.args.shares.now in
     let whole = long_marked c.args.pieces c.as_mut_slice.result.now taken ns is c.mark_all.ensures in

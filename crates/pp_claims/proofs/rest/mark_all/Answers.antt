@@ -14,7 +14,8 @@ loop-share-preserved c = let i = c.loop-share.share-index in let shares = c.args
     let front = take i shares in
     let more = take_more shares i x c.loop-share-test.true ∙ ap (λ (s : Share). front ++ s ∷ []) (sym c.share-item.is) in
     let all = ap owned_of more ∙ owned_of-more front x in
-    let marked = subst (λ (l : List Call). Marked c.loop-share.taken c.mark_owned.new.taken (owned l x.answers.now)) c.as_slice.ensures.value
+    let marked = subst (λ (l : List Call). Marked c.loop-share.taken c.mark_owned.new.taken (owned l x.answers.now))
+    c.as_slice.ensures.value
     c.mark_owned.ensures in
     subst (λ (l : List ℕ). Marked c.args.taken.now c.mark_owned.new.taken l) (sym all)
     (marked-more c.args.taken.now c.loop-share.taken c.mark_owned.new.taken (owned_of front) (owned x.calls.items x.answers.now)
