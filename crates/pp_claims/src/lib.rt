@@ -1,0 +1,5 @@
+//! Pieces of an input that callers claim by inserts into a map, each caller in a thread, and the counts of what each of them owns.
+#![tactic(auto)]
+
+pub mod rest;
+pub mod shares;

@@ -1,0 +1,4 @@
+pub mod Pieces
+pub mod Claims
+pub mod Counts
+pub mod Left
