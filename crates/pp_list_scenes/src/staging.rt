@@ -12,8 +12,8 @@ ghost use Rattle.pp_list_scenes.specs.Staff.{IsReady, AreReady, IsGoing};
 use pp_base::Pass;
 use pp_buckets::Buckets;
 use pp_list::ListGoing;
-use pp_map_scenes::staging::{answers, ends, goes_on};
-use pp_model::{Answer, Call, MapCalls, Pair, Reply};
+use pp_map_scenes::staging::{answers, closes, ends, goes_on, held};
+use pp_model::{Answer, Call, MapCalls, Reply};
 use pp_reclaim::reclaim;
 use pp_shelf::put;
 use pp_unlink::flush;
@@ -356,15 +356,10 @@ fn close(
     requires ready { AreReady table passes.items }
     requires order { AtEach passes.items (λ k p. (known p.seat).number ≡ k) }
 {
-    let Ok(closed) = table.close(alloc, passes) else {
+    let Some(closed) = closes(table, alloc, passes) else {
         panic!(rt; "no memory");
     };
-    assert_eq!(rt; closed.free(), free);
-    assert_eq!(rt; closed.contents().len(), pairs.len());
-    for place in 0..pairs.len() {
-        let (key, value) = pairs[place];
-        assert_eq!(rt; closed.contents()[place], Pair { key, value });
-    }
+    assert!(rt; held(&closed, pairs, free));
 }
 
 /// Closes the table over its one pass.

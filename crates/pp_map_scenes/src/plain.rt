@@ -1,6 +1,6 @@
 //! Scenes over the plain map, for the parts of scenes.
 
-use crate::staging::{answers, ends, goes_on};
+use crate::staging::{answers, closes, ends, goes_on, held};
 use pp_model::{Answer, Call, MapCalls, PlainMap, Reply};
 
 #[test]
@@ -19,8 +19,10 @@ fn a_plain_map_is_used_by_turns(rt: HostRuntime) {
     let Ok(passes) = Vec::from_array(rt.alloc(), [pass]) else {
         panic!(rt; "no memory");
     };
-    let Ok(closed) = map.close(rt.alloc(), passes) else {
+    let Some(closed) = closes(map, rt.alloc(), passes) else {
         panic!(rt; "no memory");
     };
-    assert_eq!(rt; closed.contents().len(), 1);
+    assert!(rt; held(&closed, &[(7, 70)], &[2, 3, 4, 5, 6, 7, 8]));
+    assert!(rt; !held(&closed, &[(7, 71)], &[2, 3, 4, 5, 6, 7, 8]));
+    assert!(rt; !held(&closed, &[(7, 70)], &[2, 3, 4, 5, 6, 7]));
 }

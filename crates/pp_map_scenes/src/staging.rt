@@ -1,12 +1,14 @@
-//! Parts of a scene over any map: a call made whole, or turn by turn. Each tells whether it went as the scene says, for a test to
-//! claim.
+//! Parts of a scene over any map: a call made whole, or turn by turn, and its closing. Each tells whether it went as the scene says,
+//! for a test to claim.
 
-ghost use Rattle.std.specs.Prelude.{◌≡◌, ◌≤◌, ◌+◌, true};
+ghost use Rattle.std.specs.Prelude.{◌≡◌, ◌≤◌, ◌+◌, true, length, map, IfSome};
+ghost use Rattle.pp_model.specs.Lists.{AtEach};
 ghost use Rattle.pp_model.specs.Pass.{PassView};
-ghost use Rattle.pp_model.specs.MapCalls.{MayCall};
+ghost use Rattle.pp_model.specs.MapCalls.{MayCall, IsClosing};
 
 use pp_model::calling::answer_one;
-use pp_model::{Answer, Call, MapCalls, Turned};
+use pp_model::{Answer, Call, Closed, MapCalls, Turned};
+use std::alloc::Global;
 
 /// Makes a call, of which so many turns may be lost. Tells whether it is answered so.
 pub fn answers<M: MapCalls>(
@@ -55,4 +57,32 @@ pub fn ends<M: MapCalls>(map: &M, pass: &mut M::Pass, going: &mut M::Going, answ
         Turned::On => false,
         Turned::Done(got) => got == answer,
     }
+}
+
+/// Closes a map over its passes. Where memory is refused, what came back is closed once more.
+pub fn closes<M: MapCalls + Drop>(
+    whole: M,
+    alloc: Global,
+    passes: Vec<M::Pass>,
+) -> Option<Closed<M::Witness>>
+where
+    M::Pass: Drop,
+    M::Witness: Drop,
+    requires all { length passes.items ≡ (M.sizes whole).passes }
+    requires each { AtEach passes.items (λ k p. M.Belongs whole p × M.Idle p × ((M.pass_view p).caller ≡ k)) }
+    ensures closed { IfSome result (λ c. IsClosing M.meaning (M.sizes whole) (map M.pass_view passes.items)
+        c.contents.items c.free.items (M.run_view c.witness)) }
+{
+    match whole.close(alloc, passes) {
+        Ok(closed) => Some(closed),
+        Err(refused) => refused.map.close(alloc, refused.passes).ok(),
+    }
+}
+
+/// Tells whether a map that was closed held exactly these pairs, and whether exactly these records were free.
+pub fn held<W>(closed: &Closed<W>, pairs: &[(u64, u128)], free: &[u32]) -> bool {
+    closed.free() == free
+        && closed.contents().len() == pairs.len()
+        && closed.contents().iter().zip(pairs).all(|(found, pair)| found.key == pair.0
+            && found.value == pair.1)
 }

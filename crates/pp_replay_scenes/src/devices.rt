@@ -13,33 +13,167 @@ const SMALL: &[u8] = b"0 insert 7 70\n0 get 7\n0 insert 7 71\n0 remove 7\n0 get 
 const SMALL_OUT: &[u8] =
     b"0 1 added\n0 2 value 70\n0 3 held 70\n0 4 took 70\n0 5 absent\ncontents 0\n";
 
+/// The words that choose each map, for one caller.
+const MAPS: [&str; 4] = [
+    "--map plain",
+    "--map list --callers 1",
+    "--map hash --callers 1",
+    "--map tree --callers 1",
+];
+
+/// The trace has 55 bytes: fourteen reads of four bytes at most give them, and the fifteenth its end.
 #[test]
-fn devices_fail_at_each_call_in_turn(rt: HostRuntime) -> Result<(), Fail> {
-    for number in 1..4 {
-        let failing = [number];
-        let unread = Devices {
-            read: 30,
-            failing_reads: &failing,
-            ..SOUND
-        };
-        let got = replayed(&rt, rt.alloc(), "--map plain", SMALL, &unread, &NoGate)?;
-        assert_eq!(rt; got.status, 3, "read {number}");
-        assert_eq!(rt; got.sink.len(), 0);
-        assert_eq!(rt; got.errs.as_slice(), b"read: failed\n".as_slice());
+fn reads_fail_one_after_another(rt: HostRuntime) -> Result<(), Fail> {
+    for line in MAPS {
+        for number in 1..17 {
+            let failing = [number];
+            let unread = Devices {
+                read: 4,
+                failing_reads: &failing,
+                ..SOUND
+            };
+            let got = replayed(&rt, rt.alloc(), line, SMALL, &unread, &NoGate)?;
+            let (status, sink, errs): (u8, &[u8], &[u8]) = if number == 16 {
+                (0, SMALL_OUT, b"")
+            } else {
+                (3, b"", b"read: failed\n")
+            };
+            assert_eq!(rt; got.status, status, "{line}, read {number}");
+            assert_eq!(rt; got.sink.as_slice(), sink, "{line}, read {number}");
+            assert_eq!(rt; got.errs.as_slice(), errs, "{line}, read {number}");
+        }
     }
-    for write in [4usize, 7] {
-        for number in 1u64..10 {
+    Ok(())
+}
+
+/// The output has 69 bytes: ten writes of seven bytes at most take them.
+#[test]
+fn writes_fail_one_after_another(rt: HostRuntime) -> Result<(), Fail> {
+    for line in MAPS {
+        for number in 1u64..12 {
             let failing = [number];
             let unwritten = Devices {
-                write,
+                write: 7,
                 failing_writes: &failing,
                 ..SOUND
             };
-            let got = replayed(&rt, rt.alloc(), "--map plain", SMALL, &unwritten, &NoGate)?;
-            assert_eq!(rt; got.status, 4, "write {number} of {write} bytes");
-            assert_eq!(rt; got.sink.len(), write.saturating_mul(number as usize - 1));
-            assert!(rt; SMALL_OUT.starts_with(&got.sink));
-            assert_eq!(rt; got.errs.as_slice(), b"write: failed\n".as_slice());
+            let got = replayed(&rt, rt.alloc(), line, SMALL, &unwritten, &NoGate)?;
+            let (status, errs): (u8, &[u8]) = if number == 11 {
+                (0, b"")
+            } else {
+                (4, b"write: failed\n")
+            };
+            let whole = 7usize.saturating_mul(number as usize - 1);
+            let written = SMALL_OUT.len().min(whole);
+            assert_eq!(rt; got.status, status, "{line}, write {number}");
+            assert_eq!(rt; got.sink.len(), written, "{line}, write {number}");
+            assert!(rt; SMALL_OUT.starts_with(&got.sink), "{line}, write {number}");
+            assert_eq!(rt; got.errs.as_slice(), errs, "{line}, write {number}");
+        }
+    }
+    Ok(())
+}
+
+const ADDED: &[u8] = b"0 1 added\ncontents 1\n7 70\n";
+
+const READ: &[u8] = b"0 1 added\n0 2 value 70\ncontents 1\n7 70\n";
+
+const HELD: &[u8] = b"0 1 added\n0 2 value 70\n0 3 held 70\ncontents 1\n7 70\n";
+
+const TAKEN: &[u8] = b"0 1 added\n0 2 value 70\n0 3 held 70\n0 4 took 70\ncontents 0\n";
+
+/// Of the small trace's first bytes, from one number of them to another: the status, what is printed, and the line about an error.
+const CUT_OFF: [(usize, usize, u8, &[u8], &[u8]); 16] = [
+    (0, 0, 0, b"contents 0\n", b""),
+    (1, 7, 2, b"", b"trace: line 1: word\n"),
+    (8, 11, 2, b"", b"trace: line 1: fields\n"),
+    (12, 12, 0, b"0 1 added\ncontents 1\n7 7\n", b""),
+    (13, 14, 0, ADDED, b""),
+    (15, 18, 2, b"", b"trace: line 2: word\n"),
+    (19, 20, 2, b"", b"trace: line 2: fields\n"),
+    (21, 22, 0, READ, b""),
+    (23, 29, 2, b"", b"trace: line 3: word\n"),
+    (30, 33, 2, b"", b"trace: line 3: fields\n"),
+    (34, 36, 0, HELD, b""),
+    (37, 43, 2, b"", b"trace: line 4: word\n"),
+    (44, 45, 2, b"", b"trace: line 4: fields\n"),
+    (46, 47, 0, TAKEN, b""),
+    (48, 51, 2, b"", b"trace: line 5: word\n"),
+    (52, 53, 2, b"", b"trace: line 5: fields\n"),
+];
+
+#[test]
+fn a_trace_that_was_cut_off_is_refused_or_answered(rt: HostRuntime) -> Result<(), Fail> {
+    for line in MAPS {
+        for (first, last, status, sink, errs) in CUT_OFF {
+            for length in first..last + 1 {
+                let part = &SMALL[..length];
+                let got = replayed(&rt, rt.alloc(), line, part, &SOUND, &NoGate)?;
+                assert_eq!(rt; got.status, status, "{line}, {length} bytes");
+                assert_eq!(rt; got.sink.as_slice(), sink, "{line}, {length} bytes");
+                assert_eq!(rt; got.errs.as_slice(), errs, "{line}, {length} bytes");
+            }
+        }
+    }
+    Ok(())
+}
+
+/// The line has 20 bytes: with five at most for each write it takes four.
+#[test]
+fn a_line_about_an_error_is_cut_where_its_sink_fails(rt: HostRuntime) -> Result<(), Fail> {
+    let told = b"trace: line 1: word\n";
+    for line in MAPS {
+        for number in 1u64..6 {
+            let failing = [number];
+            let untold = Devices {
+                error: 5,
+                failing_errors: &failing,
+                ..SOUND
+            };
+            let got = replayed(&rt, rt.alloc(), line, b"0", &untold, &NoGate)?;
+            let whole = 5usize.saturating_mul(number as usize - 1);
+            assert_eq!(rt; got.status, 2, "{line}, write {number}");
+            assert_eq!(rt; got.sink.len(), 0, "{line}, write {number}");
+            assert_eq!(rt;
+                got.errs.len(),
+                told.len().min(whole),
+                "{line}, write {number}"
+            );
+            assert!(rt; told.starts_with(&got.errs), "{line}, write {number}");
+        }
+    }
+    Ok(())
+}
+
+/// Words before reading, reading before the trace, and writing last.
+#[test]
+fn the_first_of_two_causes_decides(rt: HostRuntime) -> Result<(), Fail> {
+    let unread = Devices {
+        failing_reads: &[1],
+        failing_writes: &[1],
+        ..SOUND
+    };
+    let unwritten = Devices {
+        failing_writes: &[1],
+        ..SOUND
+    };
+    let full: &[u8] =
+        b"0 insert 1 1\n0 insert 2 2\n0 insert 3 3\n0 insert 4 4\n0 insert 5 5\n0 insert 6 6\n0 insert 7 7\n0 insert 8 8\n0 insert 9 9\n";
+    for line in MAPS {
+        let refused = format!(in rt.alloc(); "{line} --callers 0")?;
+        let small = format!(in rt.alloc(); "{line} --records 8")?;
+        let rows: [(&str, &Devices, &[u8], u8, &[u8]); 5] = [
+            (&refused, &unread, b"0", 1, b"words: refused\n"),
+            (line, &unread, b"0", 3, b"read: failed\n"),
+            (line, &unwritten, b"0", 2, b"trace: line 1: word\n"),
+            (&small, &unwritten, full, 4, b"write: failed\n"),
+            (&small, &unread, full, 3, b"read: failed\n"),
+        ];
+        for (words, devices, trace, status, errs) in rows {
+            let got = replayed(&rt, rt.alloc(), words, trace, devices, &NoGate)?;
+            assert_eq!(rt; got.status, status, "{words}");
+            assert_eq!(rt; got.sink.len(), 0, "{words}");
+            assert_eq!(rt; got.errs.as_slice(), errs, "{words}");
         }
     }
     Ok(())
@@ -53,16 +187,20 @@ fn feeds(alloc: Global, count: usize) -> Result<Vec<u8>, Fail> {
 #[test]
 fn long_traces_are_read_up_to_the_limit(rt: HostRuntime) -> Result<(), Fail> {
     let whole = feeds(rt.alloc(), 16_777_216)?;
-    let got = replayed(&rt, rt.alloc(), "--map plain", &whole, &SOUND, &NoGate)?;
-    assert_eq!(rt; got.status, 0);
-    assert_eq!(rt; got.sink.as_slice(), b"contents 0\n".as_slice());
     let longer = feeds(rt.alloc(), 16_777_217)?;
-    let got = replayed(&rt, rt.alloc(), "--map plain", &longer, &SOUND, &NoGate)?;
-    assert_eq!(rt; got.status, 7);
-    assert_eq!(rt;
-        got.errs.as_slice(),
-        b"trace: longer than 16777216 bytes\n".as_slice()
-    );
+    for line in MAPS {
+        let got = replayed(&rt, rt.alloc(), line, &whole, &SOUND, &NoGate)?;
+        assert_eq!(rt; got.status, 0, "{line}");
+        assert_eq!(rt; got.sink.as_slice(), b"contents 0\n".as_slice(), "{line}");
+        let got = replayed(&rt, rt.alloc(), line, &longer, &SOUND, &NoGate)?;
+        assert_eq!(rt; got.status, 7, "{line}");
+        assert_eq!(rt; got.sink.len(), 0, "{line}");
+        assert_eq!(rt;
+            got.errs.as_slice(),
+            b"trace: longer than 16777216 bytes\n".as_slice(),
+            "{line}"
+        );
+    }
     Ok(())
 }
 

@@ -6,13 +6,16 @@ use std::alloc::Global;
 use std::test::Fail;
 use std::thread::Threads;
 
-/// The most bytes that the source gives at a read and the sink takes at a write, and which of these fail.
+/// The most bytes that the source gives at a read, that the sink takes at a write and that the sink for the line about an error
+/// takes at a write, and which of these fail.
 #[derive(Clone, Copy)]
 pub struct Devices<'a> {
     pub read: usize,
     pub failing_reads: &'a [u64],
     pub write: usize,
     pub failing_writes: &'a [u64],
+    pub error: usize,
+    pub failing_errors: &'a [u64],
 }
 
 /// Devices that never fail.
@@ -21,6 +24,8 @@ pub const SOUND: Devices<'static> = Devices {
     failing_reads: &[],
     write: 100_000,
     failing_writes: &[],
+    error: 7,
+    failing_errors: &[],
 };
 
 /// What a replay showed.
@@ -54,7 +59,8 @@ pub fn replayed<R: Threads + Sync, G: Gate + Sync>(
     let mut source = MemSource::new(trace.to_vec(alloc)?, devices.read.max(1), reads);
     let writes = devices.failing_writes.to_vec(alloc)?;
     let mut sink = MemSink::new(alloc, devices.write.max(1), writes);
-    let mut errs = MemSink::new(alloc, 7, Vec::new(alloc));
+    let errors = devices.failing_errors.to_vec(alloc)?;
+    let mut errs = MemSink::new(alloc, devices.error.max(1), errors);
     let ending = replay(rt, alloc, &words, &mut source, &mut sink, &mut errs, gate);
     Ok(Shown {
         status: ending.status,

@@ -147,7 +147,7 @@ fn the_plain_map_replays_as_worked_by_hand(rt: HostRuntime) -> Result<(), Fail> 
 
 #[test]
 fn lists_and_hash_tables_replay_as_worked_by_hand(rt: HostRuntime) -> Result<(), Fail> {
-    let rows: [(&str, &[u8], u8, &[u8], &[u8]); 14] = [
+    let rows: [(&str, &[u8], u8, &[u8], &[u8]); 16] = [
         ("--map hash", b"", 0, b"contents 0\n", b""),
         ("--map list --callers 1", SMALL, 0, SMALL_OUT, b""),
         ("--map hash --callers 1", SMALL, 0, SMALL_OUT, b""),
@@ -222,6 +222,21 @@ fn lists_and_hash_tables_replay_as_worked_by_hand(rt: HostRuntime) -> Result<(),
             b"0 1 added\n0 2 value 10\n1 1 added\n1 2 value 20\ncontents 2\n1 10\n2 20\n",
             b"",
         ),
+        // the callers from the ninth on have no record of their own
+        (
+            "--map hash --callers 64 --records 8",
+            b"8 insert 1 1\n",
+            6,
+            b"8 1 full\ncontents 0\n",
+            b"answers: 1 full, 0 lost\n",
+        ),
+        (
+            "--map list --callers 64 --records 8",
+            b"63 insert 1 1\n",
+            6,
+            b"63 1 full\ncontents 0\n",
+            b"answers: 1 full, 0 lost\n",
+        ),
     ];
     for (line, trace, status, sink, errs) in rows {
         let got = replayed(&rt, rt.alloc(), line, trace, &SOUND, &NoGate)?;
@@ -234,7 +249,7 @@ fn lists_and_hash_tables_replay_as_worked_by_hand(rt: HostRuntime) -> Result<(),
 
 #[test]
 fn trees_replay_as_worked_by_hand(rt: HostRuntime) -> Result<(), Fail> {
-    let rows: [(&str, &[u8], u8, &[u8], &[u8]); 6] = [
+    let rows: [(&str, &[u8], u8, &[u8], &[u8]); 8] = [
         ("--map tree --callers 1", SMALL, 0, SMALL_OUT, b""),
         (
             "--map tree --callers 1",
@@ -269,6 +284,21 @@ fn trees_replay_as_worked_by_hand(rt: HostRuntime) -> Result<(), Fail> {
             b"0 insert 1 1\n0 insert 2 2\n",
             6,
             b"0 1 added\n0 2 full\ncontents 1\n1 1\n",
+            b"answers: 1 full, 0 lost\n",
+        ),
+        // five records are the empty tree's, and the shares of four callers are 1, 1, 1 and 0, where an insert needs two
+        (
+            "--map tree --records 8",
+            b"0 insert 1 1\n",
+            6,
+            b"0 1 full\ncontents 0\n",
+            b"answers: 1 full, 0 lost\n",
+        ),
+        (
+            "--map tree --records 8 --callers 64",
+            b"63 insert 1 1\n",
+            6,
+            b"63 1 full\ncontents 0\n",
             b"answers: 1 full, 0 lost\n",
         ),
     ];

@@ -11,8 +11,8 @@ ghost use Rattle.pp_tree_scenes.specs.Staff.{IsReady, AreReady, IsGoing};
 
 use pp_base::Pass;
 use pp_edges::TreeShape;
-use pp_map_scenes::staging::{answers, ends, goes_on};
-use pp_model::{Answer, Call, MapCalls, Pair, Reply};
+use pp_map_scenes::staging::{answers, closes, ends, goes_on, held};
+use pp_model::{Answer, Call, MapCalls, Reply};
 use pp_reclaim::reclaim;
 use pp_tree::{Tree, TreeGoing};
 use std::alloc::Global;
@@ -268,15 +268,10 @@ fn close(
     requires ready { AreReady tree passes.items }
     requires order { AtEach passes.items (λ k p. (known p.seat).number ≡ k) }
 {
-    let Ok(closed) = tree.close(alloc, passes) else {
+    let Some(closed) = closes(tree, alloc, passes) else {
         panic!(rt; "no memory");
     };
-    assert_eq!(rt; closed.free(), free);
-    assert_eq!(rt; closed.contents().len(), pairs.len());
-    for place in 0..pairs.len() {
-        let (key, value) = pairs[place];
-        assert_eq!(rt; closed.contents()[place], Pair { key, value });
-    }
+    assert!(rt; held(&closed, pairs, free));
 }
 
 /// Closes the tree over its one pass.

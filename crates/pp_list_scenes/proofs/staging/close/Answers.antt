@@ -1,4 +1,4 @@
 use Rattle.pp_list_scenes.proofs.staging.close.Goals as goal
 
-pub close-requires-clause-each : goal.close-requires-clause-each
-close-requires-clause-each g c = λ k p at. let r = c.requires.ready k p at in (r.member, r.resting, c.requires.order k p at)
+pub closes-requires-clause-each : goal.closes-requires-clause-each
+closes-requires-clause-each g c = λ k p at. let r = c.requires.ready k p at in (r.member, r.resting, c.requires.order k p at)

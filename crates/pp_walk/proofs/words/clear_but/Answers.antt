@@ -6,8 +6,8 @@ use Rattle.pp_base.proofs.Steady.{named_at}
 use Rattle.pp_lists.specs.Turns.{ListView}
 use Rattle.pp_walk.proofs.Clearing.{ClearsTo, clears_start, clears_kept, clears_empty, clears_one}
 use Rattle.pp_walk.proofs.words.clear_but.Goals as goal
-use Rattle.pp_walk.proofs.words.clear_but.Goals.{then-word-a+then-word-b+then-word-c+then-pass-word-ne0}
-use Rattle.pp_walk.proofs.words.clear_but.Goals.{then-word-a+then-word-b+then-word-c+else-pass-word-ne0, else-word-a}
+use Rattle.pp_walk.proofs.words.clear_but.Goals.{then-pass-word-ne0+then-word-a+then-word-b+then-word-c}
+use Rattle.pp_walk.proofs.words.clear_but.Goals.{else-pass-word-ne0, then-pass-word-ne0+else-word-a}
 use Rattle.pp_walk.proofs.words.clear_but.Goals.{else-word-a-via-then-word-a+then-word-b+else-word-c}
 use Rattle.pp_walk.proofs.words.clear_but.Goals.{else-word-a-via-then-word-a+else-word-b, else-word-a-via-else-word-a}
 
@@ -25,18 +25,18 @@ loop-word-preserved c = let old = c.args.pass.now.seat in let now = c.loop-word.
     let inv = c.loop-word.invariant in let next : Seat Unit ListView → Type 0 = λ s. ClearsTo (i + 1) c.args.a c.args.b c.args.c old s in
     let lt : i < 5 = c.loop-word-test.true in
     elim c.if-word-a.branch [
-      | then-word-a+then-word-b+then-word-c+then-pass-word-ne0 w ↦ record {
+      | then-pass-word-ne0+then-word-a+then-word-b+then-word-c w ↦ record {
         to = subst next (sym (ap (λ p. p.seat) w.pass-is)) (clears_one i c.args.a c.args.b c.args.c _ old now.seat _ now.keeping.pass.five
             lt
             w.if-word-a.true w.if-word-b.true w.if-word-c.true w.clear.ensures.same w.clear.ensures.made inv.to);
         purse = ap (λ p. p.purse) w.pass-is ∙ (w.clear.ensures.purse ∙ inv.purse);
       }
-      | then-word-a+then-word-b+then-word-c+else-pass-word-ne0 w ↦ record {
+      | else-pass-word-ne0 w ↦ record {
         to = subst next (sym (ap (λ p. p.seat) w.pass-is)) (clears_empty i c.args.a c.args.b c.args.c old now.seat now.keeping.pass lt
             (sym (named_at (known now.seat).walk now.walk i now.keeping.walk_is) ∙ w.if-pass-word-ne0.false) inv.to);
         purse = ap (λ p. p.purse) w.pass-is ∙ inv.purse;
       }
-      | else-word-a w ↦ record {
+      | then-pass-word-ne0+else-word-a w ↦ record {
         to = subst next (sym (ap (λ p. p.seat) w.pass-is)) (clears_kept i c.args.a c.args.b c.args.c old now.seat
             (elim w.else-word-a.branch [
               | else-word-a-via-then-word-a+then-word-b+else-word-c x ↦ inr (inr x.if-word-c.false)
