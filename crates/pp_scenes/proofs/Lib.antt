@@ -1,4 +1,2 @@
 pub mod Scenes
-pub mod Pulling
 pub mod Learning
-pub mod Putting

@@ -9,8 +9,8 @@ ghost use Rattle.pp_base.specs.Sources.{IsReadable};
 ghost use Rattle.pp_base.specs.Row.{has_flag, MayCut};
 ghost use Rattle.pp_scenes.specs.Rows.{HoldsFirst, Knows, GrownBut};
 
-use crate::staging::{end, open};
-use crate::tests::{SMALL, hold};
+use crate::staging::{SMALL, end, open};
+use crate::tests::hold;
 use pp_base::row::RowShape;
 use pp_base::{Pass, Place, Pool, Side};
 use pp_hazard::{Protect, clear, key, link, try_protect};

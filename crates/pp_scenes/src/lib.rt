@@ -1,18 +1,11 @@
-//! Worked scenes over pools of RowShape and of PegShape: what no single clause says, run once each.
+//! Worked scenes over pools of RowShape: what no single clause says, run once each; and the parts with which scenes over other shapes
+//! begin and end.
 #![tactic(auto)]
 
 #[cfg(test)]
 mod detaching;
 #[cfg(test)]
-mod filling;
-#[cfg(test)]
 mod noted;
-#[cfg(test)]
-mod peg_tests;
-pub mod pegs;
-#[cfg(test)]
-mod shelving;
-#[cfg(test)]
-mod staging;
+pub mod staging;
 #[cfg(test)]
 mod tests;

@@ -1,4 +1,4 @@
-//! Opening and closing a pool for a scene.
+//! Opening and closing a pool for a scene, and the sizes of small pools.
 
 ghost use Rattle.std.specs.Prelude.{◌≡◌, length};
 ghost use Rattle.pp_link.specs.Places.{IsWithin};
@@ -15,12 +15,22 @@ use pp_rule::Shape;
 use std::alloc::Global;
 use std::process::Abort;
 
+/// Two passes, eight records and one head.
+pub const SMALL: Sizes = Sizes {
+    passes: 2,
+    records: 8,
+    heads: 1,
+};
+
+/// One pass, eight records and one head.
+pub const SMALLEST: Sizes = Sizes {
+    passes: 1,
+    records: 8,
+    heads: 1,
+};
+
 /// A pool of this shape, and its passes.
-pub(crate) fn open<S: Shape>(
-    rt: &impl Abort,
-    alloc: Global,
-    sizes: Sizes,
-) -> (Pool<S>, Vec<Pass<S>>)
+pub fn open<S: Shape>(rt: &impl Abort, alloc: Global, sizes: Sizes) -> (Pool<S>, Vec<Pass<S>>)
     requires { IsWithin sizes }
     ensures sizes { result.0.layout ≡ sizes }
     ensures count { length result.1.items ≡ sizes.passes }
@@ -33,7 +43,7 @@ pub(crate) fn open<S: Shape>(
 }
 
 /// Closes the pool.
-pub(crate) fn end<S: Shape>(
+pub fn end<S: Shape>(
     rt: &impl Abort,
     alloc: Global,
     pool: Pool<S>,

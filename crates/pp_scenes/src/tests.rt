@@ -7,25 +7,13 @@ ghost use Rattle.pp_base.specs.Sources.{IsReadable};
 ghost use Rattle.pp_pool.specs.Taken.{IsPrivate, Took};
 ghost use Rattle.pp_scenes.specs.Rows.{HoldsFirst, GrownBut};
 
-use crate::staging::{end, open};
+use crate::staging::{SMALL, SMALLEST, end, open};
 use pp_base::row::RowShape;
 use pp_base::{Pass, Place, Pool, Side};
 use pp_hazard::{Protect, clear, key, link, try_protect, value};
 use pp_link::{Link, Sizes};
 use pp_pool::{Fresh, give_back, set_key, set_link, set_value, take};
 use std::process::Abort;
-
-pub(crate) const SMALL: Sizes = Sizes {
-    passes: 2,
-    records: 8,
-    heads: 1,
-};
-
-pub(crate) const SMALLEST: Sizes = Sizes {
-    passes: 1,
-    records: 8,
-    heads: 1,
-};
 
 const LARGEST: Sizes = Sizes {
     passes: 64,

@@ -24,7 +24,7 @@ pub loop-word-preserved : goal.loop-word-preserved
 loop-word-preserved c = let old = c.args.pass.now.seat in let now = c.loop-word.pass in let i = c.loop-word.word in
     let inv = c.loop-word.invariant in let next : Seat Unit ListView → Type 0 = λ s. ClearsTo (i + 1) c.args.a c.args.b c.args.c old s in
     let lt : i < 5 = c.loop-word-test.true in
-    elim c.if-word-a.branch [
+    elim c.if-pass-word-ne0.branch [
       | then-pass-word-ne0+then-word-a+then-word-b+then-word-c w ↦ record {
         to = subst next (sym (ap (λ p. p.seat) w.pass-is)) (clears_one i c.args.a c.args.b c.args.c _ old now.seat _ now.keeping.pass.five
             lt

@@ -1,0 +1,4 @@
+pub mod Pegs
+pub mod PegLists
+pub mod PegLaws
+pub mod Puts
