@@ -6,7 +6,8 @@ use Rattle.pp_check.specs.declared.Verdict.TheVariants as verdict
 use Rattle.pp_check.specs.declared.judging.Way.{Way}
 use Rattle.pp_check.specs.declared.judging.Way.TheVariants.{Judged, Unread, TooLong, Unwritten, NoMemory}
 use Rattle.pp_outside.specs.Outside.{Rose}
-use Rattle.pp_check.specs.Judging.{Device, Cause, IsGood, IsJudgedOrNot, status_of}
+use Rattle.pp_devices.specs.Devices.{Device}
+use Rattle.pp_check.specs.Judging.{Cause, IsGood, IsJudgedOrNot, status_of}
 
 gave_part : (old new : Option (List ℕ)) (own bytes : List ℕ) → old ≡ Some own → Consumes old new bytes → length bytes ≤ length own
 gave_part None new own bytes tells gave = absurd cc

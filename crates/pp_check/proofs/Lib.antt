@@ -1,6 +1,5 @@
 pub mod Values
 pub mod Indexing
-pub mod Writings
 pub mod Places
 pub mod Standing
 pub mod Verdicts

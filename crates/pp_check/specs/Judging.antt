@@ -1,22 +1,13 @@
 -- How a judgement ends.
-use Rattle.std.specs.Prelude.{◌≡◌, ℕ, ◌≤◌, ◌⊎◌, List, [], ◌++◌, length, Option, Some, Result, Ok, Err, codes}
-use Rattle.std.specs.Io.KnownBytes.{Appends}
+use Rattle.std.specs.Prelude.{◌≡◌, ℕ, ◌≤◌, ◌⊎◌, List, [], ◌++◌, length, Some, codes}
 use Rattle.std.specs.Fmt.{decimal}
-use Rattle.pp_outside.specs.Outside.{Rose, WasAll, GaveMore, GaveAtMost, GrewByPrefix, WroteOn, WroteToFault, OffersAll}
-use Rattle.pp_outside.specs.declared.Failed.{Failed}
+use Rattle.pp_outside.specs.Outside.{Rose, WasAll}
+use Rattle.pp_devices.specs.Devices.{Device, WasUnread, WasTooLong}
 use Rattle.pp_check.specs.declared.Verdict.{Verdict}
 use Rattle.pp_check.specs.declared.Verdict.TheVariants as verdict
 use Rattle.pp_check.specs.declared.judging.Way.{Way}
 use Rattle.pp_check.specs.declared.judging.Way.TheVariants.{Judged, Unread, TooLong, Unwritten, NoMemory}
 use Rattle.pp_check.specs.Verdicts.{IsVerdict}
-
--- a source or a sink: the bytes that it tells, those left or those written, and its count of faults
-pub record Device : Type 0 where
-  pub bytes : Option (List ℕ)
-  pub faults : ℕ
-
-abbrev pub device : Option (List ℕ) → ℕ → Device
-device bytes faults = record { bytes = bytes; faults = faults }
 
 -- ---- texts
 
@@ -48,33 +39,6 @@ line_of Unwritten = codes "write: failed\n"
 line_of NoMemory = codes "memory: refused\n"
 line_of TooLong = codes "trace: longer than 16777216 bytes\n"
 
--- ---- writing
-
--- a text was written whole, by writes that all succeeded and that each offered all that was left of it
-pub record IsWritten {K : Type 0} (written : K → Option (List ℕ)) (faults : K → ℕ) (Writes : K → K → List ℕ → Result ℕ Failed → Type 0)
-    (old new : K) (text : List ℕ) : Type 0 where
-  pub written_is : Appends (written old) (written new) text
-  pub kept : faults new ≡ faults old
-  pub writes : WroteOn Writes OffersAll old text new []
-
--- a prefix of a text was written, up to the first write that failed, which ended its writing
-pub record IsWrittenPart {K : Type 0} (written : K → Option (List ℕ)) (faults : K → ℕ) (Writes : K → K → List ℕ → Result ℕ Failed → Type 0)
-    (old new : K) (text : List ℕ) : Type 0 where
-  pub written_is : GrewByPrefix (written old) (written new) text
-  pub rose : Rose (faults old) (faults new)
-  pub rest : List ℕ
-  pub writes : WroteToFault Writes OffersAll old text new rest
-
-abbrev pub Writing : {K : Type 0} → (K → Option (List ℕ)) → (K → ℕ) → (K → K → List ℕ → Result ℕ Failed → Type 0) → K → K → List ℕ
-    → Result (Unit {0}) Failed → Type 0
-Writing written faults Writes old new text (Ok u) = IsWritten written faults Writes old new text
-Writing written faults Writes old new text (Err e) = IsWrittenPart written faults Writes old new text
-
--- the line was told, or a failure cut it off
-abbrev pub IsTold : {E : Type 0} → (E → Option (List ℕ)) → (E → ℕ) → (E → E → List ℕ → Result ℕ Failed → Type 0) → E → E → List ℕ → Type 0
-IsTold written faults Writes old new line =
-    IsWritten written faults Writes old new line ⊎ IsWrittenPart written faults Writes old new line
-
 -- ---- causes
 
 -- the source was read to its end, no read failed, and this is the verdict on its bytes
@@ -90,16 +54,6 @@ pub record WasCut (before after : Device) (Cut : List ℕ → Type 0) : Type 0 w
   pub verdict : Verdict
   pub judged : WasJudged before after verdict
   pub cut : Cut (verdict_line verdict)
-
--- a read failed, and the source had given no more than may be read
-pub record WasUnread (before after : Device) : Type 0 where
-  pub rose : Rose before.faults after.faults
-  pub few : GaveAtMost 16777216 before.bytes after.bytes
-
--- the source gave more than may be read, and no read failed before
-pub record WasTooLong (before after : Device) : Type 0 where
-  pub gave : GaveMore 16777216 before.bytes after.bytes
-  pub unfailed : after.faults ≡ before.faults
 
 -- Why a judgement ended in this way: of a source as it was and is, of a sink that is as it was (Quiet), to which a line was written
 -- whole (Whole), or cut off (Cut).

@@ -1,10 +1,13 @@
 //! A whole judgement: a certificate in, a verdict out.
 
 ghost use Rattle.std.specs.Prelude.{◌≡◌};
-ghost use Rattle.pp_check.specs.Judging.{device, status_of, Cause, IsWritten, IsWrittenPart, IsTold, IsJudgement, IsGood, IsJudgedOrNot};
+ghost use Rattle.pp_devices.specs.Devices.{device};
+ghost use Rattle.pp_devices.specs.Told.{IsTold, IsToldWhole, IsToldPart};
+ghost use Rattle.pp_check.specs.Judging.{status_of, Cause, IsJudgement, IsGood, IsJudgedOrNot};
 
-use crate::telling::{verdict_text, way_text, write_text};
+use crate::telling::{verdict_text, way_text};
 use crate::{Verdict, check};
+use pp_devices::{tell_line, write_text};
 use pp_outside::{ReadFault, Sink, Source, read_all};
 use std::alloc::Global;
 
@@ -62,13 +65,13 @@ pub fn judge<S: Source, K: Sink, E: Sink>(
     ensures ending { IsJudgement result.status
         (device (S.left source.old) (S.faults source.old)) (device (S.left source.new) (S.faults source.new))
         (device (K.written sink.new) (K.faults sink.new) ≡ device (K.written sink.old) (K.faults sink.old))
-        (IsWritten K.written K.faults K.Writes sink.old sink.new) (IsWrittenPart K.written K.faults K.Writes sink.old sink.new)
+        (IsToldWhole K.written K.faults K.Writes sink.old sink.new) (IsToldPart K.written K.faults K.Writes sink.old sink.new)
         (IsTold E.written E.faults E.Writes errs.old errs.new) }
     ensures complete { IsGood (device (S.left source.old) (S.faults source.old)) (device (S.left source.new) (S.faults source.new))
         (K.faults sink.old) (K.faults sink.new) → IsJudgedOrNot result.status }
 {
     let way = judge_source(alloc, source, sink);
-    let _told = write_text(errs, way_text(way).as_str().as_bytes());
+    tell_line(errs, way_text(way).as_str().as_bytes());
     Judged {
         status: way.status(),
     }
@@ -77,7 +80,7 @@ pub fn judge<S: Source, K: Sink, E: Sink>(
 fn judge_source<S: Source, K: Sink>(alloc: Global, source: &mut S, sink: &mut K) -> Way
     ensures { Cause result (device (S.left source.old) (S.faults source.old)) (device (S.left source.new) (S.faults source.new))
         (device (K.written sink.new) (K.faults sink.new) ≡ device (K.written sink.old) (K.faults sink.old))
-        (IsWritten K.written K.faults K.Writes sink.old sink.new) (IsWrittenPart K.written K.faults K.Writes sink.old sink.new) }
+        (IsToldWhole K.written K.faults K.Writes sink.old sink.new) (IsToldPart K.written K.faults K.Writes sink.old sink.new) }
 {
     match read_all(alloc, source, LONGEST) {
         Ok(bytes) => match check(alloc, &bytes) {

@@ -1,32 +1,16 @@
-//! Lines that are written to a sink, made on the stack.
+//! Lines that are written, made on the stack.
 
 ghost use Rattle.std.specs.Prelude.{◌≡◌, ◌+◌, ◌≤◌};
 ghost use Rattle.arrayvec.specs.ArrayString.{array_string_len};
-ghost use Rattle.pp_check.specs.Judging.{Writing, verdict_line, line_of};
+ghost use Rattle.pp_check.specs.Judging.{verdict_line, line_of};
 
 use crate::Verdict;
 use crate::judging::Way;
 use arrayvec::ArrayString;
 use itoa::Buffer;
-use pp_outside::{Failed, Sink};
 
 // No line is longer than this.
 const LINE: usize = 64;
-
-/// Writes a text, up to the first write that fails, which ends its writing. Each write offers all that is left of the text. It takes
-/// no memory.
-pub fn write_text<K: Sink>(sink: &mut K, text: &[u8]) -> Result<(), Failed>
-    ensures { Writing K.written K.faults K.Writes sink.old sink.new text.now result }
-{
-    let mut rest = text;
-    while !rest.is_empty() {
-        match sink.write(rest) {
-            Ok(count) => rest = &rest[count..],
-            Err(error) => return Err(error),
-        }
-    }
-    Ok(())
-}
 
 /// The line of a verdict.
 pub fn verdict_text(verdict: Verdict) -> ArrayString<LINE>

@@ -1,13 +1,13 @@
 -- A line that is told piece by piece.
 use Rattle.std.proofs.Common.{◌≡◌, ℕ, ◌-◌, ◌≤◌, List, [], ◌++◌, length, take, drop, refl, sym, ap, ◌∙◌, subst, arith, append_assoc, append-nil}
-use Rattle.std.specs.Prelude.{Option, Result, Ok, Err}
+use Rattle.std.specs.Prelude.{Option, Result, Ok, Err, IfOk, IfErr}
 use Rattle.std.proofs.Common.{inl, inr}
 use Rattle.std.proofs.lemmas.List.{take-append-drop, take_all, length-drop}
 use Rattle.std.specs.Io.KnownBytes.{Appends, Keeps}
 use Rattle.std.proofs.KnownBytes.{Appends-nil, Appends-trans, Appends-kept}
 use Rattle.pp_outside.specs.declared.Failed.{Failed}
 use Rattle.pp_outside.specs.Outside.{Rose, HasCause, WroteOn, no_write, next_write, WroteToFault, OffersAll}
-use Rattle.pp_devices.specs.Told.{IsTold}
+use Rattle.pp_devices.specs.Told.{IsTold, IsToldWhole, IsToldPart}
 
 module _ {E : Type 0} (written : E → Option (List ℕ)) (faults : E → ℕ) (Writes : E → E → List ℕ → Result ℕ Failed → Type 0) where
   -- the front of the line was taken, and this is the rest; no write failed
@@ -37,3 +37,9 @@ module _ {E : Type 0} (written : E → Option (List ℕ)) (faults : E → ℕ) (
         writes = subst (λ (left : List ℕ). WroteOn Writes OffersAll s line u left) (sym all)
             (next_write t u rest rest [] count so_far.writes (sym (append-nil rest)) refl fits made);
       }
+
+  -- it was told, however that ended
+  pub told : (old new : E) (line : List ℕ) (r : Result Unit Failed) → IfOk r (λ u. IsToldWhole written faults Writes old new line)
+      → IfErr r (λ e. IsToldPart written faults Writes old new line) → IsTold written faults Writes old new line
+  told old new line (Ok u) whole part = inl whole
+  told old new line (Err e) whole part = inr part

@@ -4,5 +4,5 @@
 mod telling;
 mod ways;
 
-pub use telling::{tell, tell_line};
+pub use telling::{tell, tell_line, write_text};
 pub use ways::Way;

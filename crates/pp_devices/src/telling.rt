@@ -1,16 +1,16 @@
 //! The line that tells how a program ended.
 
-ghost use Rattle.std.specs.Prelude.{◌≡◌, ◌+◌, ◌≤◌, ◌<◌, List, ◌++◌, length, codes};
+ghost use Rattle.std.specs.Prelude.{◌≡◌, ◌+◌, ◌≤◌, ◌<◌, List, ◌++◌, length, codes, IfOk, IfErr};
 ghost use Rattle.std.specs.Fmt.{decimal};
 ghost use Rattle.arrayvec.specs.ArrayString.{array_string_len};
 ghost use Rattle.pp_trace.specs.Text.{why_text};
-ghost use Rattle.pp_devices.specs.Told.{IsTold};
+ghost use Rattle.pp_devices.specs.Told.{IsTold, IsToldWhole, IsToldPart};
 ghost use Rattle.pp_devices.specs.Ways.{line_of};
 
 use crate::Way;
 use arrayvec::ArrayString;
 use itoa::Buffer;
-use pp_outside::Sink;
+use pp_outside::{Failed, Sink};
 use pp_trace::Why;
 
 // No line is longer than this.
@@ -30,13 +30,27 @@ pub fn tell<E: Sink>(errs: &mut E, way: Way)
 pub fn tell_line<E: Sink>(errs: &mut E, line: &[u8])
     ensures { IsTold E.written E.faults E.Writes errs.old errs.new line.now }
 {
-    let mut rest = line;
+    let _told = write_text(errs, line);
+}
+
+/// Writes a text, up to the first write that fails, which ends its writing. Each write offers all that is left of the text. It
+/// takes no memory.
+///
+/// # Errors
+///
+/// A write failed.
+pub fn write_text<K: Sink>(sink: &mut K, text: &[u8]) -> Result<(), Failed>
+    ensures whole { IfOk result (λ u. IsToldWhole K.written K.faults K.Writes sink.old sink.new text.now) }
+    ensures part { IfErr result (λ e. IsToldPart K.written K.faults K.Writes sink.old sink.new text.now) }
+{
+    let mut rest = text;
     while !rest.is_empty() {
-        match errs.write(rest) {
+        match sink.write(rest) {
             Ok(count) => rest = &rest[count..],
-            Err(_) => return,
+            Err(error) => return Err(error),
         }
     }
+    Ok(())
 }
 
 fn line_text(way: Way) -> ArrayString<LINE>

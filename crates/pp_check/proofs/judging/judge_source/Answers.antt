@@ -1,6 +1,6 @@
 use Rattle.std.proofs.Common.{List, ℕ, ◌∙◌, subst}
 use Rattle.pp_check.specs.Verdicts.{IsVerdict}
-use Rattle.pp_check.specs.Judging.{IsWritten, IsWrittenPart}
+use Rattle.pp_devices.specs.Told.{IsToldWhole, IsToldPart}
 use Rattle.pp_check.proofs.judging.judge_source.Goals as goal
 
 pub returns-in-Ok-write_text : goal.returns-in-Ok-write_text
@@ -12,9 +12,9 @@ returns-in-Ok-write_text g c = (
     within = c.in-Ok.ensures.most;
     right = subst (λ (t : List ℕ). IsVerdict t c.in-Ok-check.verdict) c.deref.ensures.value c.in-Ok-check.ensures.verdict;
   },
-  subst (λ (t : List ℕ). IsWritten g.K.Sink.written g.K.Sink.faults g.K.Sink.Writes c.args.sink.now c.write_text.new.sink t)
+  subst (λ (t : List ℕ). IsToldWhole g.K.Sink.written g.K.Sink.faults g.K.Sink.Writes c.args.sink.now c.write_text.new.sink t)
       (c.as_bytes.ensures.value ∙ c.as_str.ensures.value ∙ c.verdict_text.ensures)
-      c.in-Ok-write_text.ensures,
+      c.in-Ok-write_text.ensures.whole,
 )
 
 pub returns-in-Ok-check : goal.returns-in-Ok-check
@@ -27,7 +27,7 @@ returns-in-Ok-check g c = record {
     within = c.in-Ok.ensures.most;
     right = subst (λ (t : List ℕ). IsVerdict t c.in-Ok-check.verdict) c.deref.ensures.value c.in-Ok-check.ensures.verdict;
   };
-  cut = subst (λ (t : List ℕ). IsWrittenPart g.K.Sink.written g.K.Sink.faults g.K.Sink.Writes c.args.sink.now c.write_text.new.sink t)
+  cut = subst (λ (t : List ℕ). IsToldPart g.K.Sink.written g.K.Sink.faults g.K.Sink.Writes c.args.sink.now c.write_text.new.sink t)
       (c.as_bytes.ensures.value ∙ c.as_str.ensures.value ∙ c.verdict_text.ensures)
-      c.in-Err-write_text.ensures;
+      c.in-Err-write_text.ensures.part;
 }

@@ -1,5 +1,5 @@
-use Rattle.pp_check.proofs.Writings.{none_sent, more_sent}
-use Rattle.pp_check.proofs.telling.write_text.Goals as goal
+use Rattle.pp_devices.proofs.Tellings.{none_sent, more_sent}
+use Rattle.pp_devices.proofs.telling.write_text.Goals as goal
 
 pub loop-rest-init : goal.loop-rest-init
 loop-rest-init g c = none_sent _ _ _ _ c.args.text.now
