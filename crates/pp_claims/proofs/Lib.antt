@@ -1,1 +1,9 @@
 pub mod Owned
+pub mod Apart
+pub mod Logs
+pub mod Lists
+pub mod Placings
+pub mod Owners
+pub mod Sharing
+pub mod Sums
+pub mod Claims

@@ -55,7 +55,7 @@ long_marked count old taken ns is m = m.long ∙ (ap (λ (l : List Bool). length
 abbrev pub zeros : ℕ → List ℕ
 zeros count = replicate count 0
 
-none_counted : (count n : ℕ) → get_or (zeros count) n 0 ≡ 0
+pub none_counted : (count n : ℕ) → get_or (zeros count) n 0 ≡ 0
 none_counted zero n = refl
 none_counted (suc count) zero = refl
 none_counted (suc count) (suc n) = none_counted count n

@@ -80,7 +80,7 @@ counted-more old new bytes x c low = record {
 pub counted-le : (old new bytes : List ℕ) (b : ℕ) → Counted old new bytes → b < 256 → get_or new b 0 ≤ get_or old b 0 + length bytes
 counted-le old new bytes b c low = let is = c.each b low in let few = times-le b bytes in omega arith
 
-times_in-append : (b : ℕ) (bytes ms ns : List ℕ) → times_in b bytes (ms ++ ns) ≡ times_in b bytes ms + times_in b bytes ns
+pub times_in-append : (b : ℕ) (bytes ms ns : List ℕ) → times_in b bytes (ms ++ ns) ≡ times_in b bytes ms + times_in b bytes ns
 times_in-append b bytes [] ns = omega arith
 times_in-append b bytes (m ∷ ms) ns = let rest = times_in-append b bytes ms ns in omega arith
 
