@@ -7,12 +7,14 @@ ghost use Rattle.pp_queue.specs.Passes.{IsReady};
 ghost use Rattle.pp_queue_scenes.specs.Staff.{AreReady};
 
 use crate::staging::open;
+use pp_base::hazards::clear;
 use pp_base::{Pass, Pool};
 use pp_model::{InsertFault, Lost};
 use pp_queue::calling::stand_at;
 use pp_queue::records::{fill, take_record};
-use pp_queue::steps::{link_behind, load_end, look};
+use pp_queue::steps::{begin, link_behind, load_end, look};
 use pp_queue::{Queue, QueueShape};
+use pp_reclaim::reclaim;
 use std::alloc::Global;
 use std::process::Abort;
 
@@ -36,6 +38,23 @@ fn open_two(rt: &impl Abort, alloc: Global) -> (Queue, Pass<QueueShape>, Pass<Qu
     let second = take_last(rt, &mut passes);
     let first = take_last(rt, &mut passes);
     (queue, first, second)
+}
+
+/// A queue over eight records, and the passes of its three callers. The first record is the dummy, and the others are dealt as 2 to 4,
+/// 5 and 6, and 7 and 8.
+fn open_three(
+    rt: &impl Abort,
+    alloc: Global,
+) -> (Queue, Pass<QueueShape>, Pass<QueueShape>, Pass<QueueShape>)
+    ensures first { IsReady result.0 result.1 }
+    ensures second { IsReady result.0 result.2 }
+    ensures third { IsReady result.0 result.3 }
+{
+    let (queue, mut passes) = open(rt, alloc, 3, 8);
+    let third = take_last(rt, &mut passes);
+    let second = take_last(rt, &mut passes);
+    let first = take_last(rt, &mut passes);
+    (queue, first, second, third)
 }
 
 /// Links a record behind the last one, to which head 1 led. Head 1 stays as it is.
@@ -73,6 +92,16 @@ fn stop_a_put(rt: &impl Abort, queue: &Queue, pass: &mut Pass<QueueShape>, value
     link_alone(rt, pool, pass, fresh.number(), first);
 }
 
+/// A take makes its steps up to the one by which it holds the dummy, and stops.
+fn stop_a_take(rt: &impl Abort, queue: &Queue, pass: &mut Pass<QueueShape>)
+    requires ready { IsReady queue.now pass.old }
+    ensures fits { Fits queue.now.pool.table.shared.table_id queue.now.pool.layout pass.new.seat }
+{
+    let pool = &queue.pool;
+    let first = begin(pool, pass);
+    assert!(rt; stand_at(pool, pass, 0, first));
+}
+
 // The other put moves head 1 on in a turn that is lost, and then puts its value behind the first one.
 #[test]
 fn a_put_finds_head_1_lagging(rt: HostRuntime) {
@@ -93,4 +122,22 @@ fn a_take_moves_head_1_on(rt: HostRuntime) {
     assert_eq!(rt; queue.take(&mut second, 1), Err(Lost { turns: 1 }));
     assert_eq!(rt; queue.take(&mut second, 1), Ok(Some(7)));
     assert_eq!(rt; queue.take(&mut second, 1), Ok(None));
+}
+
+// The second caller puts two values in the records 6 and 5, and the third one takes both. It has detached the dummies 1 and 6. Of these
+// the stopped take holds 1, which stays retired until its walk word is cleared.
+#[test]
+fn a_stalled_take_holds_the_dummy(rt: HostRuntime) {
+    let (queue, mut first, mut second, mut third) = open_three(&rt, rt.alloc());
+    stop_a_take(&rt, &queue, &mut first);
+    assert_eq!(rt; queue.put(&mut second, 8, 1), Ok(()));
+    assert_eq!(rt; queue.put(&mut second, 9, 1), Ok(()));
+    assert_eq!(rt; queue.take(&mut third, 1), Ok(Some(8)));
+    assert_eq!(rt; queue.take(&mut third, 1), Ok(Some(9)));
+    assert_eq!(rt; queue.take(&mut third, 1), Ok(None));
+    assert_eq!(rt; reclaim(&queue.pool, &mut third), 1);
+    assert_eq!(rt; third.retired(), [1].as_slice());
+    clear(&queue.pool, &mut first, 0);
+    assert_eq!(rt; reclaim(&queue.pool, &mut third), 1);
+    assert_eq!(rt; third.retired().len(), 0);
 }
