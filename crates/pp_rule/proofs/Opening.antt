@@ -284,6 +284,7 @@ module _ {E A W : Type 0} (sides sentinels : ℕ) (head : ℕ → ℕ) (field : 
         pool = opened_pool;
         ties = ties_open within;
         runs = runs_open (opening_words sentinels head field z);
+        stored = λ s i. absurd (in_nil s i);
         base = base;
         added = met z opened_pool within most base record {
           of = λ p low. refl;

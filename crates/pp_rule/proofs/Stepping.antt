@@ -7,7 +7,7 @@ use Rattle.atomic_table.specs.Table.{Me, keeps, Allows}
 use Rattle.atomic_table.proofs.Lists.{at_set, set_here}
 use Rattle.pp_link.specs.declared.layout.Sizes.{Sizes}
 use Rattle.pp_rule.specs.Lists.{IsIn}
-use Rattle.pp_rule.specs.Orders.{LoggedStep, stores, only_loads, KeepsWord}
+use Rattle.pp_rule.specs.Orders.{LoggedStep, stores, only_loads, KeepsWord, StoresHazard, StoresThere}
 use Rattle.pp_rule.specs.Views.{PassState, SeatView, all_of}
 use Rattle.pp_rule.specs.States.{RecordState, PoolState}
 use Rattle.pp_rule.specs.Rule.{Base}
@@ -100,7 +100,21 @@ module _ {E A W : Type 0} where
             (in_either m order (s ∷ []) i);
       }
 
+module _ {E A : Type 0} where
+  -- stores went where they may
+  pub stored_after : (z : Sizes) (order : List (LoggedStep E A)) (s : LoggedStep E A)
+      → ((m : LoggedStep E A) → IsIn m order → StoresThere z m)
+      → StoresThere z s → (m : LoggedStep E A) → IsIn m (order ++ s ∷ []) → StoresThere z m
+  stored_after z order s before last m i = ⊎_elim (before m)
+      (λ (here : IsIn m (s ∷ [])). subst (λ (m : LoggedStep E A). StoresThere z m) (in_one m s here) last)
+      (in_either m order (s ∷ []) i)
+
 module _ {E A W : Type 0} (sides : ℕ) (opens : Sizes → List ℕ) (addition : Sizes → List ℕ → PoolState E A W → Type 0) where
+  -- a step of this kind, by this pass, stores to a hazard word or to a private record
+  abbrev pub PlacesHazard : Sizes → PassState W → ℕ → ℕ → Type 0
+  PlacesHazard z q kind place = (words : List ℕ) (g : PoolState E A W) → Base sides z words g → q.number < z.passes
+      → g.of q.number ≡ q → StoresHazard z kind place
+
   -- What a kind of step owes: from the facts before it the facts after it, with what is now known of its pass, the states of
   -- the numbers, the changes that took effect and the calls that were placed.
   pub record KeepsRule (kind place word left : ℕ) (z : Sizes) (words : List ℕ) (g : PoolState E A W) (old known : PassState W)
@@ -125,7 +139,8 @@ module _ {E A W : Type 0} (sides : ℕ) (opens : Sizes → List ℕ) (addition :
   -- A step keeps the rule where it does so in each state that meets it. The kind may depend on the word that is found.
   pub allows_by : (z : Sizes) (slots id place : ℕ) (kind : ℕ → ℕ) (me : Me Unit (SeatView E A W)) (change noted : ℕ → ℕ)
       (then : ℕ → Me Unit (SeatView E A W) → Type 0) → IsAlone me
-      → ((n : ℕ) → stores (kind n) ≡ false → noted n ≡ n) → ((n : ℕ) → stores (kind n) ≡ true → noted n ≡ change n)
+      → ((n : ℕ) → stores (kind n) ≡ false → noted n ≡ n) → ((n : ℕ) → stores (kind n) ≡ true
+      → (noted n ≡ change n) × PlacesHazard z me.0.known (kind n) place)
       → ((n : ℕ) → only_loads (kind n) ≡ true → change n ≡ noted n)
       → ((words : List ℕ) (g : PoolState E A W) → Base sides z words g → addition z words g → me.0.known.number < z.passes
       → g.of me.0.known.number ≡ me.0.known → me.0.known.sizes ≡ z → get_or words place 0 < 18446744073709551616
@@ -150,7 +165,8 @@ module _ {E A W : Type 0} (sides : ℕ) (opens : Sizes → List ℕ) (addition :
           pool = after_step g did.known did.status e;
           ties = ties_after z s.views g id v did.known did.status e h.ties at lone.1 did.keeps_rule.number did.keeps_rule.sizes refl;
           runs = runs_after (opens z) s.words g.order did.known (kind n) place (noted n) (change n) did.changes did.placed h.runs
-              (found n) (stored n) (kept n);
+              (found n) (λ is. (stored n is).0) (kept n);
+          stored = stored_after z g.order e h.stored (λ is. (stored n is).1 s.words g h.base mine.number mine.is);
           base = did.keeps_rule.base;
           added = did.keeps_rule.added;
         },
@@ -160,7 +176,8 @@ module _ {E A W : Type 0} (sides : ℕ) (opens : Sizes → List ℕ) (addition :
   -- the same for a step of one kind
   pub allows : (z : Sizes) (slots id place kind : ℕ) (me : Me Unit (SeatView E A W)) (change noted : ℕ → ℕ)
       (then : ℕ → Me Unit (SeatView E A W) → Type 0) → IsAlone me
-      → ((n : ℕ) → stores kind ≡ false → noted n ≡ n) → ((n : ℕ) → stores kind ≡ true → noted n ≡ change n)
+      → ((n : ℕ) → stores kind ≡ false → noted n ≡ n) → ((n : ℕ) → stores kind ≡ true
+      → (noted n ≡ change n) × PlacesHazard z me.0.known kind place)
       → ((n : ℕ) → only_loads kind ≡ true → change n ≡ noted n)
       → ((words : List ℕ) (g : PoolState E A W) → Base sides z words g → addition z words g → me.0.known.number < z.passes
       → g.of me.0.known.number ≡ me.0.known → me.0.known.sizes ≡ z → get_or words place 0 < 18446744073709551616

@@ -2,7 +2,7 @@
 use Rattle.std.specs.Prelude.{◌≡◌, ℕ, ◌<◌, List, ◌∷◌, ◌++◌}
 use Rattle.pp_link.specs.declared.layout.Sizes.{Sizes}
 use Rattle.pp_rule.specs.Lists.{IsIn}
-use Rattle.pp_rule.specs.Orders.{LoggedStep, FindsWord, replayed, entries_of, stores, KeepsWord}
+use Rattle.pp_rule.specs.Orders.{LoggedStep, FindsWord, replayed, entries_of, stores, KeepsWord, StoresThere}
 use Rattle.pp_rule.specs.Views.{SeatView}
 use Rattle.pp_rule.specs.States.{PoolState}
 use Rattle.pp_rule.specs.Rule.{Base}
@@ -26,6 +26,8 @@ pub record IsRun {E A : Type 0} (caller : E → ℕ) (opens : List ℕ) (z : Siz
   pub kept : (s : LoggedStep E A) → IsIn s order → KeepsWord s
   pub made : (s : LoggedStep E A) → IsIn s order → s.entry.pass < z.passes
   pub own : (s : LoggedStep E A) → IsIn s order → IsOwnStep caller s
+  -- a step that stores does so to a hazard word or to a private record
+  pub stored : (s : LoggedStep E A) → IsIn s order → StoresThere z s
 
 -- it is true of the view of a seat that has seen all steps, by the rule of words that meet it
 abbrev pub SeesAll : {E A W : Type 0} → ℕ → (Sizes → List ℕ) → (Sizes → List ℕ → PoolState E A W → Type 0) → Sizes
@@ -34,3 +36,21 @@ SeesAll {E} {A} {W} sides opens addition z Q =
     (words : List ℕ) (g : PoolState E A W) (v : SeatView E A W) → Base sides z words g → addition z words g
     → Runs (opens z) words g.order
     → ((s : LoggedStep E A) → IsIn s g.order → s.entry.pass < z.passes) → g.order ≡ v.order → g.of v.known.number ≡ v.known → Q v
+
+module _ {E A W : Type 0} (sides : ℕ) (opens : Sizes → List ℕ) (addition : Sizes → List ℕ → PoolState E A W → Type 0) where
+  -- The rule of the words that the order of this view leaves: it has all steps, and what is known of the pass is what holds.
+  pub record SeenState (v : SeatView E A W) : Type 0 where
+    pub pool : PoolState E A W
+    pub base : Base sides v.known.sizes (replayed (opens v.known.sizes) (entries_of v.order)) pool
+    pub added : addition v.known.sizes (replayed (opens v.known.sizes) (entries_of v.order)) pool
+    pub order : pool.order ≡ v.order
+    pub known_is : pool.of v.known.number ≡ v.known
+
+  -- Whatever is decided follows from the rule of the present words.
+  abbrev pub SeesState : SeatView E A W → Type 0
+  SeesState v = (SeenState v → ⊥) → ⊥
+
+  -- What a pass has seen: a run of its pool, from its opening words on. Where the pool has one pass, it has seen all steps.
+  pub record HasSeen (caller : E → ℕ) (v : SeatView E A W) : Type 0 where
+    pub run : IsRun caller (opens v.known.sizes) v.known.sizes v.order
+    pub whole : v.known.sizes.passes ≡ 1 → SeesState v

@@ -1,5 +1,6 @@
 -- The order of all steps.
-use Rattle.std.specs.Prelude.{◌≡◌, ℕ, Bool, true, cond, nat_eq, ◌||◌, List, [], ◌∷◌, ◌++◌, map}
+use Rattle.std.specs.Prelude.{◌≡◌, ℕ, ◌*◌, ◌≤◌, Bool, true, false, cond, nat_eq, ◌||◌, List, [], ◌∷◌, ◌++◌, map}
+use Rattle.pp_link.specs.declared.layout.Sizes.{Sizes}
 pub use Rattle.pp_model.specs.declared.steps.Step.{Step}
 pub use Rattle.pp_model.specs.declared.steps.OrderEntry.{OrderEntry}
 pub use Rattle.pp_model.specs.Pass.{replayed, changes_of, steps_of, FindsWord, IsExecution}
@@ -75,6 +76,10 @@ abbrev pub stores : ℕ → Bool
 stores kind = nat_eq kind write_step || nat_eq kind announce_step || nat_eq kind clear_step || nat_eq kind guard_step
     || nat_eq kind unguard_step || nat_eq kind retire_step
 
+-- A step of this kind that stores does so to a hazard word, but for a store to a field of a private record.
+abbrev pub StoresHazard : Sizes → ℕ → ℕ → Type 0
+StoresHazard z kind place = nat_eq kind write_step ≡ false → place ≤ 17 * z.passes
+
 -- The kinds of step that leave the word that they found: loads, and exchanges that found another word than they expected. 19
 -- and 24 are loads of the structures, at which a call that changes nothing may be placed.
 abbrev pub only_loads : ℕ → Bool
@@ -105,6 +110,10 @@ module _ {E A : Type 0} where
   -- a step that only loads leaves the word that it found
   abbrev pub KeepsWord : LoggedStep E A → Type 0
   KeepsWord s = only_loads s.entry.step.kind ≡ true → s.entry.left ≡ s.entry.step.word
+
+  -- a step that stores
+  abbrev pub StoresThere : Sizes → LoggedStep E A → Type 0
+  StoresThere z s = stores s.entry.step.kind ≡ true → StoresHazard z s.entry.step.kind s.entry.step.place
 
   -- one step more, at which no change took effect and no call was placed
   pub record IsQuietStep (before after : List (LoggedStep E A)) : Type 0 where

@@ -6,7 +6,7 @@ use Rattle.atomic_table.specs.Table.{State}
 use lib.ListN.{get_elem?}
 use mathlib.Core.Option.{some}
 use Rattle.pp_rule.specs.Lists.{IsIn, OnceBy, BeginsWith}
-use Rattle.pp_rule.specs.Orders.{LoggedStep, entries_of, made_by, replayed, IsExecution, stores, KeepsWord}
+use Rattle.pp_rule.specs.Orders.{LoggedStep, entries_of, made_by, replayed, IsExecution, stores, KeepsWord, StoresThere}
 use Rattle.pp_rule.specs.Views.{PassState, JoinedOrder, SeatView, all_of}
 use Rattle.pp_rule.specs.States.{PoolState}
 use Rattle.pp_rule.specs.Rule.{Base}
@@ -64,5 +64,7 @@ module _ {E A W : Type 0} where
     pub pool : PoolState E A W
     pub ties : Ties z s.views pool
     pub runs : Runs (opens z) s.words pool.order
+    -- stores go to hazard words and to private records alone
+    pub stored : (m : LoggedStep E A) → IsIn m pool.order → StoresThere z m
     pub base : Base sides z s.words pool
     pub added : addition z s.words pool
