@@ -8,11 +8,11 @@ use Rattle.atomic_table.specs.Table.{Me, Allows, State}
 use Rattle.atomic_table.proofs.Lists.{set_here}
 use Rattle.pp_link.specs.declared.layout.Sizes.{Sizes}
 use Rattle.pp_rule.specs.Lists.{IsIn, BeginsWith}
-use Rattle.pp_rule.specs.Orders.{LoggedStep, OrderEntry, replayed, FindsWord, IsExecution, entries_of, log_of, made_by, stores, StoresThere}
+use Rattle.pp_rule.specs.Orders.{LoggedStep, OrderEntry, replayed, FindsWord, IsExecution, entries_of, log_of, made_by, stores}
 use Rattle.pp_rule.specs.Views.{PassState, SeatView, all_of}
 use Rattle.pp_rule.specs.States.{PoolState}
 use Rattle.pp_rule.specs.Rule.{Base}
-use Rattle.pp_rule.specs.Ties.{TiedPass, Tied, Runs, Holds}
+use Rattle.pp_rule.specs.Ties.{TiedPass, Tied, Runs, Holds, GoAside}
 use Rattle.pp_rule.specs.Steps.{entry, alone, IsAlone, MadeStep}
 use Rattle.pp_rule.specs.Alone.{SeesAll, IsRun, IsOwnStep, HasOwnChanges, SeenState, SeesState, HasSeen}
 use Rattle.pp_rule.proofs.Put.{in_nil, in_first, in_right, in_left, in_cases, at_below}
@@ -70,11 +70,11 @@ module _ {E A : Type 0} where
   entries_middle before after s = entries_append before (s ∷ after)
 
   -- what was seen of a run is one
-  pub run_seen : (caller : E → ℕ) (opens words : List ℕ) (z : Sizes) (all order : List (LoggedStep E A)) → BeginsWith all order
+  pub run_seen : (sides : ℕ) (caller : E → ℕ) (opens words : List ℕ) (z : Sizes) (all order : List (LoggedStep E A)) → BeginsWith all order
       → Runs opens words all → ((s : LoggedStep E A) → IsIn s all → s.entry.pass < z.passes)
-      → ((s : LoggedStep E A) → IsIn s all → IsOwnStep caller s) → ((s : LoggedStep E A) → IsIn s all → StoresThere z s)
-      → IsRun caller opens z order
-  run_seen caller opens words z all order begins runs made own stored = record {
+      → ((s : LoggedStep E A) → IsIn s all → IsOwnStep caller s) → GoAside sides z opens all
+      → IsRun sides caller opens z order
+  run_seen sides caller opens words z all order begins runs made own aside = record {
     finds = λ before after s is.
         let split : all ≡ before ++ s ∷ (after ++ begins.0) =
         begins.1 ∙ (ap (λ l. l ++ begins.0) is ∙ append_assoc before (s ∷ after) begins.0) in
@@ -83,7 +83,8 @@ module _ {E A : Type 0} where
     kept = λ s i. runs.kept s (in_all s i);
     made = λ s i. made s (in_all s i);
     own = λ s i. own s (in_all s i);
-    stored = λ s i. stored s (in_all s i);
+    aside = λ before after s is. aside before (after ++ begins.0) s
+        (begins.1 ∙ (ap (λ l. l ++ begins.0) is ∙ append_assoc before (s ∷ after) begins.0));
   }
     where
       in_all : (s : LoggedStep E A) → IsIn s order → IsIn s all
@@ -125,7 +126,7 @@ module _ {E A W : Type 0} (sides : ℕ) (opens : Sizes → List ℕ) (addition :
   pub finds_standing : {kind place word left : ℕ} {changes : List E} {placed : List A} {caller : E → ℕ}
       (known : PassState W) (before after : SeatView E A W)
       → z.passes ≡ 1 → before.known.number < z.passes → MadeStep kind place word left changes placed known before after
-      → IsRun caller (opens z) z after.order → stores kind ≡ false
+      → IsRun sides caller (opens z) z after.order → stores kind ≡ false
       → word ≡ get_or (replayed (opens z) (entries_of before.order)) place 0
   finds_standing {kind} {place} {word} {left} {changes} {placed} {caller} known before after one low made run loads =
       let e : LoggedStep E A = entry kind place word left changes placed made.so_far known in
@@ -146,10 +147,10 @@ module _ {E A W : Type 0} (sides : ℕ) (opens : Sizes → List ℕ) (addition :
       let all_w : all_of w ≡ w.known ∷ w.taken = ap (λ (b : Bool). cond b (w.known ∷ w.taken) []) standing in
       let mine : TiedPass z g h.ties.seat_of id w.order w.known =
       tied.each w.known (subst (λ (l : List (PassState W)). IsIn w.known l) (sym all_w) (in_first w.known w.taken)) in
-      let run : IsRun caller (opens z) z w.order =
-      run_seen caller (opens z) s.words z g.order w.order tied.begins h.runs h.ties.made (owns z s.words g h.added) h.stored in
+      let run : IsRun sides caller (opens z) z w.order =
+      run_seen sides caller (opens z) s.words z g.order w.order tied.begins h.runs h.ties.made (owns z s.words g h.added) h.aside in
       record {
-        run = subst (λ (y : Sizes). IsRun caller (opens y) y w.order) (sym mine.sizes) run;
+        run = subst (λ (y : Sizes). IsRun sides caller (opens y) y w.order) (sym mine.sizes) run;
         whole = λ one none.
             let order : g.order ≡ w.order = none_further z.passes w.known.number g.order w.order
             (sym (ap (λ (y : Sizes). y.passes) mine.sizes) ∙ one) mine.number tied.begins mine.steps h.ties.made in

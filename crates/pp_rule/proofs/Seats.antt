@@ -206,7 +206,7 @@ module _ {E A W : Type 0} (sides : ℕ) (opens : Sizes → List ℕ) (addition :
           made = t.made;
         };
         runs = h.runs;
-        stored = h.stored;
+        aside = h.aside;
         base = h.base;
         added = h.added;
       }
@@ -323,7 +323,7 @@ module _ {E A W : Type 0} (sides : ℕ) (opens : Sizes → List ℕ) (addition :
           made = t.made;
         };
         runs = h.runs;
-        stored = h.stored;
+        aside = h.aside;
         base = h.base;
         added = h.added;
       }
@@ -370,7 +370,7 @@ module _ {E A W : Type 0} (sides : ℕ) (opens : Sizes → List ℕ) (addition :
           made = t.made;
         };
         runs = h.runs;
-        stored = h.stored;
+        aside = h.aside;
         base = h.base;
         added = h.added;
       }

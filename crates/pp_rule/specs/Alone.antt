@@ -2,11 +2,11 @@
 use Rattle.std.specs.Prelude.{◌≡◌, ℕ, ◌<◌, List, ◌∷◌, ◌++◌}
 use Rattle.pp_link.specs.declared.layout.Sizes.{Sizes}
 use Rattle.pp_rule.specs.Lists.{IsIn}
-use Rattle.pp_rule.specs.Orders.{LoggedStep, FindsWord, replayed, entries_of, stores, KeepsWord, StoresThere}
+use Rattle.pp_rule.specs.Orders.{LoggedStep, FindsWord, replayed, entries_of, stores, KeepsWord}
 use Rattle.pp_rule.specs.Views.{SeatView}
 use Rattle.pp_rule.specs.States.{PoolState}
 use Rattle.pp_rule.specs.Rule.{Base}
-use Rattle.pp_rule.specs.Ties.{Runs}
+use Rattle.pp_rule.specs.Ties.{Runs, GoAside}
 
 -- the changes of this step are those of its pass
 abbrev pub IsOwnStep : {E A : Type 0} → (E → ℕ) → LoggedStep E A → Type 0
@@ -18,7 +18,7 @@ HasOwnChanges {E} {A} {W} addition caller = (z : Sizes) (words : List ℕ) (g : 
     → (s : LoggedStep E A) → IsIn s g.order → IsOwnStep caller s
 
 -- an order of steps of these passes, from the opening words on
-pub record IsRun {E A : Type 0} (caller : E → ℕ) (opens : List ℕ) (z : Sizes) (order : List (LoggedStep E A)) : Type 0 where
+pub record IsRun {E A : Type 0} (sides : ℕ) (caller : E → ℕ) (opens : List ℕ) (z : Sizes) (order : List (LoggedStep E A)) : Type 0 where
   -- each step found the word that the steps before it left
   pub finds : (before after : List (LoggedStep E A)) (s : LoggedStep E A) → order ≡ before ++ s ∷ after
       → FindsWord stores (replayed opens (entries_of before)) s.entry
@@ -26,8 +26,7 @@ pub record IsRun {E A : Type 0} (caller : E → ℕ) (opens : List ℕ) (z : Siz
   pub kept : (s : LoggedStep E A) → IsIn s order → KeepsWord s
   pub made : (s : LoggedStep E A) → IsIn s order → s.entry.pass < z.passes
   pub own : (s : LoggedStep E A) → IsIn s order → IsOwnStep caller s
-  -- a step that stores does so to a hazard word or to a private record
-  pub stored : (s : LoggedStep E A) → IsIn s order → StoresThere z s
+  pub aside : GoAside sides z opens order
 
 -- it is true of the view of a seat that has seen all steps, by the rule of words that meet it
 abbrev pub SeesAll : {E A W : Type 0} → ℕ → (Sizes → List ℕ) → (Sizes → List ℕ → PoolState E A W → Type 0) → Sizes
@@ -52,5 +51,5 @@ module _ {E A W : Type 0} (sides : ℕ) (opens : Sizes → List ℕ) (addition :
 
   -- What a pass has seen: a run of its pool, from its opening words on. Where the pool has one pass, it has seen all steps.
   pub record HasSeen (caller : E → ℕ) (v : SeatView E A W) : Type 0 where
-    pub run : IsRun caller (opens v.known.sizes) v.known.sizes v.order
+    pub run : IsRun sides caller (opens v.known.sizes) v.known.sizes v.order
     pub whole : v.known.sizes.passes ≡ 1 → SeesState v
