@@ -337,10 +337,13 @@ module _ {E A W : Type 0} (sides : ℕ) (opens : Sizes → List ℕ) (addition :
       let q' : PassState W = with_chain k (invalidated n side c) q in
       allows sides opens addition z slots id place invalidate_step me (λ w. bit_or w 4) (λ w. w)
       (λ w m'. (m'.1 ≡ []) × Invalidated k c n side w place me.0 m'.0) lone (λ m no. refl)
-      (λ m yes. ((λ bad. absurd (false≢true bad)), λ words g b low is.
-      let own = b.chains.members q.number n c low (subst (λ (v : PassState W). IsIn c v.chains) (sym is) (k, at)) member in
-      cell_aside z g n (2 + side) place own.0 (let two = b.two in omega arith) at_place
-      (λ st. let bad : in_hand q.number c.guard ≡ attached = sym own.1 ∙ st in cc)))
+      (λ m yes. (
+        (λ bad. absurd (false≢true bad)),
+        λ words g b low is.
+            let own = b.chains.members q.number n c low (subst (λ (v : PassState W). IsIn c v.chains) (sym is) (k, at)) member in
+            cell_aside z g n (2 + side) place own.0 (let two = b.two in omega arith) at_place
+            (λ st. let bad : in_hand q.number c.guard ≡ attached = sym own.1 ∙ st in cc),
+      ))
       (λ m bad. absurd (false≢true bad))
       (λ words g b add pass is sizes fits.
       let w : ℕ = get_or words place 0 in

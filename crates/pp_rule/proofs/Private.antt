@@ -124,10 +124,13 @@ module _ {E A W : Type 0} (sides : ℕ) (opens : Sizes → List ℕ) (addition :
       let q' : PassState W = with_private k (wrote f x d) q in
       allows sides opens addition z slots id place write_step me (λ _. x) (λ _. x)
       (λ _ m'. (m'.1 ≡ []) × MadeQuietStep write_step place x x q' me.0 m'.0) lone (λ m bad. absurd (false≢true (sym bad)))
-      (λ m yes. ((λ _. refl), λ words g b low is.
-      let own = b.numbers.owned_to q.number d low (subst (λ (v : PassState W). IsIn d v.owned) (sym is) (k, at)) in
-      cell_aside z g d.number f place own.0 four at_place
-      (λ st. let bad : owned q.number ≡ attached = sym own.1 ∙ st in cc))) (λ m _. refl)
+      (λ m yes. (
+        (λ _. refl),
+        λ words g b low is.
+            let own = b.numbers.owned_to q.number d low (subst (λ (v : PassState W). IsIn d v.owned) (sym is) (k, at)) in
+            cell_aside z g d.number f place own.0 four at_place
+            (λ st. let bad : owned q.number ≡ attached = sym own.1 ∙ st in cc),
+      )) (λ m _. refl)
       (λ words g b add pass is sizes fits.
       let e : LoggedStep E A = entry write_step place x x [] [] g.order q' in
       let new : List ℕ = set words place x in

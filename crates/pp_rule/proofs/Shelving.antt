@@ -155,8 +155,10 @@ module _ {E A W : Type 0} (sides : ℕ) (opens : Sizes → List ℕ) (addition :
       let kind : Bool → ℕ = λ hit. cond hit shelve_step missed_step in
       allows_by sides opens addition z slots id place (λ n. kind (eqb n 0)) me
       (λ n. either (eqb n 0) d.number n) (λ n. n) then lone (λ m no. refl)
-      (λ m yes. ((λ bad. absurd (false≢true (sym (stores_none (eqb m 0)) ∙ bad))),
-      λ words g b some is. low_aside z g place (omega arith))) (λ m. missed_keeps (eqb m 0) m d.number)
+      (λ m yes. (
+        (λ bad. absurd (false≢true (sym (stores_none (eqb m 0)) ∙ bad))),
+        λ words g b some is. low_aside z g place (omega arith),
+      )) (λ m. missed_keeps (eqb m 0) m d.number)
       (λ words g b add pass is sizes fits. let n : ℕ = get_or words place 0 in
       dite (ℕ_discrete n 0)
       (λ e. subst (λ (hit : Bool). Plays sides opens addition (kind hit) place n (either hit d.number n) z words g me.0 (then n))

@@ -139,10 +139,16 @@ module _ {E A : Type 0} where
       let more = length-append before (s ∷ after) in omega arith)
   snoc_split (x ∷ xs) [] after e s is = inr (xs, (let first : x ≡ s = cc in ap (λ (y : LoggedStep E A). y ∷ xs) first))
   snoc_split (x ∷ xs) (b ∷ before) after e s is = let first : x ≡ b = cc in let rest : xs ++ e ∷ [] ≡ before ++ s ∷ after = cc in ⊎_elim
-      (λ (c : (before ≡ xs) × (s ≡ e)). inl ((ap (λ (l : List (LoggedStep E A)). b ∷ l) c.0
-      ∙ ap (λ (y : LoggedStep E A). y ∷ xs) (sym first)), c.1))
-      (λ (c : (rest : List (LoggedStep E A)) × (xs ≡ before ++ s ∷ rest)). inr (c.0, (ap (λ (y : LoggedStep E A). y ∷ xs) first
-      ∙ ap (λ (l : List (LoggedStep E A)). b ∷ l) c.1)))
+      (λ (c : (before ≡ xs) × (s ≡ e)). inl (
+        (ap (λ (l : List (LoggedStep E A)). b ∷ l) c.0
+            ∙ ap (λ (y : LoggedStep E A). y ∷ xs) (sym first)),
+        c.1,
+      ))
+      (λ (c : (rest : List (LoggedStep E A)) × (xs ≡ before ++ s ∷ rest)). inr (
+        c.0,
+        (ap (λ (y : LoggedStep E A). y ∷ xs) first
+            ∙ ap (λ (l : List (LoggedStep E A)). b ∷ l) c.1),
+      ))
       (snoc_split xs before after e s rest)
 
   -- one step more
