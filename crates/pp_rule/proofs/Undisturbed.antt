@@ -1,6 +1,6 @@
 -- In a pool of one pass the words stand still but for what the pass does itself.
 use Rattle.std.proofs.Common.{◌≡◌, ◌≢◌, ℕ, ◌+◌, ◌*◌, ◌<◌, ◌≤◌, Bool, true, false, List, [], ◌∷◌, ◌++◌, length, get_or, set, refl, sym}
-use Rattle.std.proofs.Common.{ap, ◌∙◌, subst, append-nil, append_assoc, arith, ne_eqb, eq-eqb, cond, ⊎_elim}
+use Rattle.std.proofs.Common.{ap, ◌∙◌, subst, append-nil, append_assoc, arith, ne_eqb, eq-eqb, eqb, cond, ⊎_elim}
 use Rattle.std.proofs.lemmas.Bool.{false≢true}
 use Rattle.std.specs.Prelude.{nat_eq, ◌||◌, ◌-◌}
 use Rattle.std.proofs.Math.Decide.{ℕ_discrete}
@@ -158,3 +158,76 @@ module _ {E A W : Type 0} (sides : ℕ) (opens : Sizes → List ℕ) (addition :
   -- What the rule of the present words says of numbers is so.
   pub by_state : (v : SeatView E A W) → SeesState sides opens addition v → (a b : ℕ) → (SeenState sides opens addition v → a ≡ b) → a ≡ b
   by_state v whole a b says = stable a b (λ no. whole (λ st. no (says st)))
+
+-- Where a thing stands in a list, the list splits.
+split_at : {X : Type 0} (x : X) (xs : List X) → IsIn x xs → (before : List X) × ((after : List X) × (xs ≡ before ++ x ∷ after))
+split_at x [] i = absurd (in_nil x i)
+split_at {X} x (y ∷ ys) i = ⊎_elim
+    (λ (e : x ≡ y). ([], (ys, ap (λ (z : X). z ∷ ys) (sym e))))
+    (λ (later : IsIn x ys). let s = split_at x ys later in (y ∷ s.0, (s.1.0, ap (λ (l : List X). y ∷ l) s.1.1)))
+    (in_cases x y ys i)
+
+-- a step that a pass made is that of an entry
+entry_of_step : {E A : Type 0} (p : ℕ) (order : List (LoggedStep E A)) (s : Step) → IsIn s (made_by p order)
+    → (e : LoggedStep E A) × (IsIn e order × (e.entry.step ≡ s))
+unfolding made_by entries_of
+entry_of_step p [] s i = absurd (in_nil s i)
+entry_of_step {E} {A} p (x ∷ order) s i = by (eqb x.entry.pass p) i (entry_of_step p order s)
+  where
+    later : (e : LoggedStep E A) × (IsIn e order × (e.entry.step ≡ s)) → (e : LoggedStep E A) × (IsIn e (x ∷ order) × (e.entry.step ≡ s))
+    later f = (f.0, (in_right f.0 (x ∷ []) order f.1.0, f.1.1))
+
+    by : (b : Bool) → IsIn s (cond b (x.entry.step ∷ made_by p order) (made_by p order))
+        → (IsIn s (made_by p order) → (e : LoggedStep E A) × (IsIn e order × (e.entry.step ≡ s)))
+        → (e : LoggedStep E A) × (IsIn e (x ∷ order) × (e.entry.step ≡ s))
+    by true j rest = ⊎_elim (λ (e : s ≡ x.entry.step). (x, (in_first x order, sym e)))
+        (λ (k : IsIn s (made_by p order)). later (rest k)) (in_cases s x.entry.step (made_by p order) j)
+    by false j rest = later (rest j)
+
+-- what begins a run is one
+run_front : {E A : Type 0} (sides : ℕ) (caller : E → ℕ) (opens : List ℕ) (z : Sizes) (xs ys : List (LoggedStep E A))
+    → IsRun sides caller opens z (xs ++ ys) → IsRun sides caller opens z xs
+run_front {E} {A} sides caller opens z xs ys run = record {
+  finds = λ before after s is. run.finds before (after ++ ys) s (on before after s is);
+  kept = λ s i. run.kept s (in_left s xs ys i);
+  made = λ s i. run.made s (in_left s xs ys i);
+  own = λ s i. run.own s (in_left s xs ys i);
+  aside = λ before after s is. run.aside before (after ++ ys) s (on before after s is);
+}
+  where
+    on : (before after : List (LoggedStep E A)) (s : LoggedStep E A) → xs ≡ before ++ s ∷ after → xs ++ ys ≡ before ++ s ∷ (after ++ ys)
+    on before after s is = ap (λ (l : List (LoggedStep E A)). l ++ ys) is ∙ append_assoc before (s ∷ after) ys
+
+-- These words stood when the step was made, and it found the word at its place.
+pub record FoundThen (sides : ℕ) (z : Sizes) (words : List ℕ) (s : Step) : Type 0 where
+  pub then : List ℕ
+  pub same : SameReached sides z words then
+  pub found : s.word ≡ get_or then s.place 0
+
+module _ {E A W : Type 0} (sides : ℕ) (two : sides ≤ 2) (caller : E → ℕ) (opens : List ℕ) (z : Sizes) where
+  -- Each of some calm steps that isn't a store found a word that stood there.
+  pub calm_finds : (p : ℕ) (v w : SeatView E A W) (steps : List Step) → z.passes ≡ 1 → p < z.passes → IsRun sides caller opens z w.order
+      → BeginsWith w.order v.order → made_by p w.order ≡ made_by p v.order ++ steps
+      → ((s : Step) → IsIn s steps → is_calm s.kind ≡ true) → (s : Step) → IsIn s steps → stores s.kind ≡ false
+      → FoundThen sides z (replayed opens (entries_of v.order)) s
+  calm_finds p v w steps one low run begins made calm s i silent =
+      let rest : List (LoggedStep E A) = begins.0 in
+      let split : w.order ≡ v.order ++ rest = begins.1 in
+      let run_all : IsRun sides caller opens z (v.order ++ rest) = subst (λ (o : List (LoggedStep E A)). IsRun sides caller opens z o) split run in
+      let mine : made_by p rest ≡ steps = append_cancel_left (made_by p v.order) (made_by p rest) steps
+      (sym (ap (made_by p) split ∙ made_append p v.order rest) ∙ made) in
+      let e = entry_of_step p rest s (subst (λ (l : List Step). IsIn s l) (sym mine) i) in
+      let parts = split_at e.0 rest e.1.0 in
+      let first : List (LoggedStep E A) = parts.0 in
+      let whole : v.order ++ rest ≡ (v.order ++ first) ++ e.0 ∷ parts.1.0 = ap (λ (l : List (LoggedStep E A)). v.order ++ l) parts.1.1
+      ∙ sym (append_assoc v.order first (e.0 ∷ parts.1.0)) in
+      let front : IsRun sides caller opens z (v.order ++ first) = run_front sides caller opens z (v.order ++ first) (e.0 ∷ parts.1.0)
+      (subst (λ (o : List (LoggedStep E A)). IsRun sides caller opens z o) whole run_all) in
+      let found = (run_all.finds (v.order ++ first) parts.1.0 e.0 whole).found
+      (subst (λ (t : Step). stores t.kind ≡ false) (sym e.1.1) silent) in record {
+        then = replayed opens (entries_of (v.order ++ first));
+        same = all_stay sides two caller opens z v.order first front (λ t j. calm t.entry.step (subst (λ (l : List Step). IsIn t.entry.step l) mine
+            (all_own z.passes p rest one low (λ x k. run_all.made x (in_right x v.order rest k)) t
+            (subst (λ (l : List (LoggedStep E A)). IsIn t l) (sym parts.1.1) (in_left t first (e.0 ∷ parts.1.0) j)))));
+        found = subst (λ (t : Step). t.word ≡ get_or (replayed opens (entries_of (v.order ++ first))) t.place 0) e.1.1 found;
+      }
