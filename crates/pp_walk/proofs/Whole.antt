@@ -163,6 +163,7 @@ module _ (z : Sizes) (walk : Walk) (first : ℕ) (v u : ListView) (is : IsWalk z
         behind = rest.steps;
         steps_are = refl;
         why = rest.why;
+        some_next = λ _. going;
         names = names_u w s.names;
         stands = λ own st. stands_made steps v w did own st;
       }
@@ -205,6 +206,7 @@ module _ (z : Sizes) (walk : Walk) (first : ℕ) (v u : ListView) (is : IsWalk z
         behind = rest.steps ++ stop ∷ [];
         steps_are = refl;
         why = λ lost. absurd (lost refl);
+        some_next = λ lost _. lost refl;
         names = names_u w s.names;
         stands = λ own st. by (changes (reply_at u.known.own.call
             (found_at (key_of call) (slot w.known i).key (slot w.known i).value link))) refl own
@@ -386,6 +388,7 @@ turn_nil z walk first v u is l nil = by (changes (reply_at l.own.call None)) ref
             behind = [];
             steps_are = refl;
             why = λ lost. absurd (lost refl);
+            some_next = λ lost _. lost refl;
             names = λ j five on. inr (ap (λ (s : WalkSlot). s.held) (sym (each j)) ∙ on, ap (λ (s : WalkSlot). s.named) (each j));
             stands = stands;
           };

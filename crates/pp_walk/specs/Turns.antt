@@ -15,7 +15,7 @@ use Rattle.pp_link.specs.Links.{target, word_of}
 use Rattle.pp_calls.specs.Steps.{HasOwn, StandsThen}
 use Rattle.pp_lists.specs.declared.own.ListOwn.{ListOwn}
 use Rattle.pp_lists.specs.Walks.{IsRight}
-use Rattle.pp_lists.specs.Turns.{ListView, beginning}
+use Rattle.pp_lists.specs.Turns.{ListView, beginning, IsNil}
 use Rattle.pp_walk.specs.declared.walk.Walk.{Walk}
 use Rattle.pp_walk.specs.declared.walk.Found.{Found}
 use Rattle.pp_walk.specs.declared.walk.Turn.{Turn}
@@ -67,6 +67,7 @@ pub record Turned (z : Sizes) (was : Walk) (lost : ℕ) (calls : List Placed) (o
   pub behind : List NamedStep
   pub steps_are : trod.steps ≡ loads (source_place z before.known was.at Left) first ∷ behind
   pub why : lost ≢ 0 → Why z (source_place z before.known was.at Left) first behind
+  pub some_next : lost ≢ 0 → IsNil first → ⊥
   pub names : HoldsBut (target first) before.known now.known
   pub stands : HasOwn now.order → StandsThen before → StandsThen now
 
