@@ -12,12 +12,12 @@ use Rattle.pp_rule.specs.declared.views.SeatView.{SeatView}
 use Rattle.pp_rule.specs.Views.{slot, all_of}
 use Rattle.pp_rule.specs.States.{PoolState}
 use Rattle.pp_rule.specs.Rule.{number_of, Base}
-use Rattle.pp_rule.specs.Alone.{IsRun, HasOwnChanges}
+use Rattle.pp_rule.specs.Alone.{HasSeen, HasOwnChanges}
 use Rattle.pp_rule.specs.Ties.{Holds}
 use Rattle.pp_rule.specs.Steps.{IsAlone, MadeStep, Confirmed}
 use Rattle.pp_rule.proofs.Put.{at_below}
 use Rattle.pp_rule.proofs.Made.{alone_after, known_after}
-use Rattle.pp_rule.proofs.Alone.{tells_run}
+use Rattle.pp_rule.proofs.Alone.{tells_seen}
 use Rattle.pp_base.specs.Passes.{numbers_of, IsPassOf}
 use Rattle.pp_base.proofs.Numbered.{numbers_fit}
 
@@ -32,17 +32,17 @@ module _ {E A W : Type 0} where
       (Holds sides opens addition k) slots id me place change then) (sym is)
       (subst (λ (n : ℕ). Allows (Holds sides opens addition z) n id me place change then) (sym none) a)
 
-  -- It tells that the order that the seat has then seen is a run of the pool.
+  -- It tells what the seat has then seen of the pool.
   pub keyed_run : (sides : ℕ) (opens : Sizes → List ℕ) (addition : Sizes → List ℕ → PoolState E A W
       → Type 0) (caller : E → ℕ) → HasOwnChanges addition caller → (z key : Sizes) (slots id : ℕ) (me : Me Unit (SeatView E A W))
       (place : ℕ) (change : ℕ → ℕ) (then : ℕ → Me Unit (SeatView E A W) → Type 0) → key ≡ z → slots ≡ 0
       → Allows (Holds sides opens addition z) 0 id me place change then
       → Allows (Holds sides opens addition key) slots id me place change
-      (λ n m. then n m × (m.0.standing ≡ true → IsRun caller (opens m.0.known.sizes) m.0.known.sizes m.0.order))
+      (λ n m. then n m × (m.0.standing ≡ true → HasSeen sides opens addition caller m.0))
   keyed_run sides opens addition caller owns z key slots id me place change then is none a =
       keyed sides opens addition z key slots id me place change
-      (λ n m. then n m × (m.0.standing ≡ true → IsRun caller (opens m.0.known.sizes) m.0.known.sizes m.0.order)) is none
-      (tells_run sides opens addition z caller owns 0 id me place change then a)
+      (λ n m. then n m × (m.0.standing ≡ true → HasSeen sides opens addition caller m.0)) is none
+      (tells_seen sides opens addition z caller owns 0 id me place change then a)
 
   -- what is known of a pass names records and words that there are
   pub pass_of : (sides : ℕ) (z : Sizes) (words : List ℕ) (g : PoolState E A W) (q : PassState W) → Base sides z words g

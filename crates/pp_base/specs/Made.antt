@@ -12,7 +12,7 @@ use Rattle.pp_rule.specs.States.{PoolState}
 use Rattle.pp_rule.specs.Ties.{Holds}
 use Rattle.pp_rule.specs.Steps.{MadeQuietStep, with_walk, clearing, LoadedLink, ReadField, Confirmed}
 use Rattle.pp_rule.specs.Opening.{opening_words}
-use Rattle.pp_rule.specs.Alone.{IsRun}
+use Rattle.pp_rule.specs.Alone.{HasSeen}
 use Rattle.pp_base.specs.declared.source.Side.{Side}
 use Rattle.pp_base.specs.declared.source.Place.{Place}
 use Rattle.pp_base.specs.Passes.{known, view}
@@ -26,10 +26,11 @@ module _ {E A W : Type 0} where
   MayStep sides sentinels head field addition z s place change then =
       Allows (Holds sides (opening_words sentinels head field) addition z) 0 s.id s.me place change then
 
-  -- The order that the seat has seen is a run of its pool from its opening words, where it stands for a pass.
-  abbrev pub HasRun : ℕ → (ℕ → ℕ) → (ℕ → ℕ → ℕ) → (E → ℕ) → SeatView E A W → Type 0
-  HasRun sentinels head field caller v = v.standing ≡ true
-      → IsRun caller (opening_words sentinels head field v.known.sizes) v.known.sizes v.order
+  -- Where the seat stands for a pass, the order that it has seen is a run of its pool from its opening words, and in a pool of one
+  -- pass the rule of the present words is known of it.
+  abbrev pub HasRun : ℕ → ℕ → (ℕ → ℕ) → (ℕ → ℕ → ℕ) → (Sizes → List ℕ → PoolState E A W → Type 0) → (E → ℕ) → SeatView E A W → Type 0
+  HasRun sides sentinels head field addition caller v = v.standing ≡ true
+      → HasSeen sides (opening_words sentinels head field) addition caller v
 
   -- the number n is stored in the walk word i
   abbrev pub Announced : Sizes → ℕ → ℕ → Seat Unit (SeatView E A W) → Seat Unit (SeatView E A W) → Type 0

@@ -36,7 +36,7 @@ pub struct Pass<S: Shape> {
     /// Its lists, and its frontier words.
     pub purse: Purse,
     ghost keeping: { Keeping S.SENTINELS S.SIDES seat number share walk purse },
-    ghost run: { HasRun S.SENTINELS S.first_head S.first_field S.caller_of (view seat) },
+    ghost run: { HasRun S.SIDES S.SENTINELS S.first_head S.first_field S.addition S.caller_of (view seat) },
 }
 
 impl<S: Shape> Pass<S> {

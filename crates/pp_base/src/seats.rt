@@ -124,7 +124,7 @@ pub fn learn_orders<S: Shape>(
     ensures table { seat.new.table_id ≡ seat.old.table_id }
     ensures slots { seat.new.me.1 ≡ seat.old.me.1 }
     ensures learnt { Learnt (view seat.old) (view seat.new) }
-    ensures run { HasRun S.SENTINELS S.first_head S.first_field S.caller_of (view seat.new) }
+    ensures run { HasRun S.SIDES S.SENTINELS S.first_head S.first_field S.addition S.caller_of (view seat.new) }
 {
     load_word::<S, Brand>(pool, seat, 0, NOTHING);
 }

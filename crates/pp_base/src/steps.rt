@@ -36,7 +36,7 @@ impl<S: Shape, N: StepNote<SeatView<S::Entry, S::Said, S::Own>>> Play<
     (),
     SeatView<S::Entry, S::Said, S::Own>,
 > for Told<S, N> {
-    ghost then = { λ _ m n m'. N.then m n m' × HasRun S.SENTINELS S.first_head S.first_field S.caller_of m'.0 };
+    ghost then = { λ _ m n m'. N.then m n m' × HasRun S.SIDES S.SENTINELS S.first_head S.first_field S.addition S.caller_of m'.0 };
 }
 
 /// What a step is about. The step doesn't read it: the proof does, where it picks what the step tells.
@@ -76,7 +76,7 @@ pub fn load_word<S: Shape, N: StepNote<SeatView<S::Entry, S::Said, S::Own>>>(
         (λ n. n) (N.then seat.old.me) }
     ensures table { seat.new.table_id ≡ seat.old.table_id }
     ensures told { N.then seat.old.me result seat.new.me }
-    ensures run { HasRun S.SENTINELS S.first_head S.first_field S.caller_of (view seat.new) }
+    ensures run { HasRun S.SIDES S.SENTINELS S.first_head S.first_field S.addition S.caller_of (view seat.new) }
 {
     pool.table.shared.load::<Told<S, N>>(seat, place as usize)
 }
@@ -95,7 +95,7 @@ pub fn store_word<S: Shape, N: StepNote<SeatView<S::Entry, S::Said, S::Own>>>(
         (λ _. new) (λ _. N.then seat.old.me new) }
     ensures table { seat.new.table_id ≡ seat.old.table_id }
     ensures told { N.then seat.old.me new seat.new.me }
-    ensures run { HasRun S.SENTINELS S.first_head S.first_field S.caller_of (view seat.new) }
+    ensures run { HasRun S.SIDES S.SENTINELS S.first_head S.first_field S.addition S.caller_of (view seat.new) }
 {
     pool.table
         .shared
@@ -117,7 +117,7 @@ pub fn exchange_word<S: Shape, N: StepNote<SeatView<S::Entry, S::Said, S::Own>>>
         (λ n. either (n == first) new n) (N.then seat.old.me) }
     ensures table { seat.new.table_id ≡ seat.old.table_id }
     ensures told { N.then seat.old.me result seat.new.me }
-    ensures run { HasRun S.SENTINELS S.first_head S.first_field S.caller_of (view seat.new) }
+    ensures run { HasRun S.SIDES S.SENTINELS S.first_head S.first_field S.addition S.caller_of (view seat.new) }
 {
     pool.table
         .shared
@@ -138,7 +138,7 @@ pub fn set_bits<S: Shape, N: StepNote<SeatView<S::Entry, S::Said, S::Own>>>(
         (λ n. bit_or n bits) (N.then seat.old.me) }
     ensures table { seat.new.table_id ≡ seat.old.table_id }
     ensures told { N.then seat.old.me result seat.new.me }
-    ensures run { HasRun S.SENTINELS S.first_head S.first_field S.caller_of (view seat.new) }
+    ensures run { HasRun S.SIDES S.SENTINELS S.first_head S.first_field S.addition S.caller_of (view seat.new) }
 {
     pool.table
         .shared
@@ -159,7 +159,7 @@ pub fn swap_word<S: Shape, N: StepNote<SeatView<S::Entry, S::Said, S::Own>>>(
         (λ _. new) (N.then seat.old.me) }
     ensures table { seat.new.table_id ≡ seat.old.table_id }
     ensures told { N.then seat.old.me result seat.new.me }
-    ensures run { HasRun S.SENTINELS S.first_head S.first_field S.caller_of (view seat.new) }
+    ensures run { HasRun S.SIDES S.SENTINELS S.first_head S.first_field S.addition S.caller_of (view seat.new) }
 {
     pool.table
         .shared

@@ -10,6 +10,7 @@ use Rattle.pp_model.specs.Pass.{steps_since}
 use Rattle.pp_model.specs.MapCalls.{Grew, StandsIn}
 use Rattle.pp_rule.specs.declared.views.SeatView.{SeatView}
 use Rattle.pp_rule.specs.Opening.{share_of}
+use Rattle.pp_rule.specs.States.{PoolState}
 use Rattle.pp_rule.specs.Steps.{IsAlone}
 use Rattle.pp_base.specs.declared.purse.Purse.{Purse}
 use Rattle.pp_base.specs.declared.purse.InHand.{InHand}
@@ -43,9 +44,10 @@ module _ {E A W : Type 0} (sentinels sides : ℕ) (s s' : Seat Unit (SeatView E 
 
 module _ {W : Type 0} where
   -- the changes of the steps that a pass has seen are their passes' own
-  pub has_own : (sentinels : ℕ) (head : ℕ → ℕ) (field : ℕ → ℕ → ℕ) (s : Seat Unit (SeatView Change Placed W)) → IsAlone s.me
-      → HasRun sentinels head field (λ (c : Change). c.caller) (view s) → HasOwn (view s).order
-  has_own sentinels head field s lone run = (run (ap (λ (v : SeatView Change Placed W). v.standing) lone.1)).own
+  pub has_own : {sides : ℕ} {addition : Sizes → List ℕ → PoolState Change Placed W → Type 0} (sentinels : ℕ) (head : ℕ → ℕ)
+      (field : ℕ → ℕ → ℕ) (s : Seat Unit (SeatView Change Placed W)) → IsAlone s.me
+      → HasRun sides sentinels head field addition (λ (c : Change). c.caller) (view s) → HasOwn (view s).order
+  has_own sentinels head field s lone run = (run (ap (λ (v : SeatView Change Placed W). v.standing) lone.1)).run.own
 
   -- the clauses of a turn that speak of no call
   pub turn_clauses : (v w : SeatView Change Placed W) (free free' : List ℕ) (share : ℕ) → TurnMade v w

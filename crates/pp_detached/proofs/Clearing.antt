@@ -21,7 +21,7 @@ use Rattle.pp_rule.specs.Steps.{entry, alone, IsAlone, MadeQuietStep, clearing}
 use Rattle.pp_rule.specs.Looks.{Clears}
 use Rattle.pp_rule.specs.Laws.{KeptCleared}
 use Rattle.pp_rule.proofs.Slots.{WalkSet, clears_after}
-use Rattle.pp_rule.proofs.Stepping.{after_step, ties_after, runs_after}
+use Rattle.pp_rule.proofs.Stepping.{after_step, ties_after, runs_after, aside_after, aside_reached, low_aside}
 use Rattle.pp_rule.proofs.Put.{put_here}
 use Rattle.pp_rule.proofs.Frames.{SameContent, content_used, walk_content}
 use Rattle.pp_rule.proofs.Keeping.{clears_looks}
@@ -91,6 +91,8 @@ module _ {E A W : Type 0} (sides : ℕ) (opens : Sizes → List ℕ) (addition :
           pool = after_step g q' g.status e;
           ties = ties_after z s.views g id v q' g.status e h.ties here lone.1 refl mine.sizes refl;
           runs = runs;
+          aside = aside_after sides z (opens z) g.order e h.aside (λ _. aside_reached sides z s.words g h.base h.runs place
+              (low_aside z g place (let low = mine.number in omega arith)));
           base = b';
           added = clears z s.words new g (after_step g q' g.status e) q.number i h.base b'
               (clears_looks sides z forget s.words new g q' i e

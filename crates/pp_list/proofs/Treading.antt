@@ -93,7 +93,7 @@ record Trodden (z : Sizes) (call : Call) (n : ℕ) (from u : ListView) : Type 0 
   last : SawLast from u
 
 module _ (z : Sizes) (call : Call) (n lost : ℕ) (calls : List Placed) (own : ListOwn) (w : Walk) (from v u : ListView)
-    (t : walked.Turned w lost calls own v u) where
+    (t : walked.Turned z w lost calls own v u) where
   trodden_at : (fresh : Bool) → Begun fresh z call n from v → From fresh w.call own v u → Trodden z call (n + lost) from u
   trodden_at true b s = let r = trod_ran z call lost calls v u t.trod t.stands [] 0 in let long = trod_long lost calls v u t.trod in
       let start : s.start ≡ u.known.own.start = ap (λ (o : ListOwn). o.start) (sym s.own_is) ∙ sym t.same.start in

@@ -1,5 +1,5 @@
 -- The exchange that publishes a record.
-use Rattle.std.proofs.Common.{◌≡◌, ◌≢◌, inl, inr, ⊎_elim, ℕ, ◌+◌, ◌*◌, ◌<◌, ◌≤◌, Bool, true, false, cond, eqb}
+use Rattle.std.proofs.Common.{◌≡◌, ◌≢◌, inl, inr, ⊎_elim, ℕ, ◌+◌, ◌*◌, ◌%◌, ◌<◌, ◌≤◌, Bool, true, false, cond, eqb}
 use Rattle.std.proofs.Common.{List, [], ◌∷◌, ◌++◌, length, get_or, set, Some, None, sym, refl, ap, ap₂, ◌∙◌, subst, arith}
 use Rattle.std.proofs.Common.{length-append}
 use Rattle.std.proofs.Common.{eq-eqb, ne_eqb}
@@ -26,7 +26,7 @@ use Rattle.pp_model.specs.MapCalls.{placed}
 use Rattle.pp_model.proofs.Histories.{stands_change, sound_change, after_grown, after_all, contents_push}
 use Rattle.pp_rule.specs.declared.views.PrivateRecord.{PrivateRecord}
 use Rattle.pp_rule.specs.Lists.{IsIn}
-use Rattle.pp_rule.specs.Orders.{only_loads, log_of, placed_by, stores, missed_step}
+use Rattle.pp_rule.specs.Orders.{only_loads, log_of, placed_by, goes_aside, missed_step}
 use Rattle.pp_rule.specs.Views.{slot}
 use Rattle.pp_rule.specs.States.{RecordState, attached, owned, IsUsed, IsFrozen, Keeps, Held, Leads}
 use Rattle.pp_rule.specs.Rule.{Base, Reads}
@@ -204,6 +204,7 @@ module _ (z : Sizes) (words : List ℕ) (g : ListState) (q : ListPass) (i : ℕ)
     new_plain = omega arith;
     new_untagged = omega arith;
     new_valid = omega arith;
+    new_bare = np;
     number = own.0;
     unused = λ u. subst IsUsed own.1 u;
     attached_now = put_here g.status d.number attached;
@@ -211,6 +212,7 @@ module _ (z : Sizes) (words : List ℕ) (g : ListState) (q : ListPass) (i : ℕ)
     valid_c = ap invalid_bit link_d ∙ (omega arith);
     plain_c = ap flag_bit link_d ∙ (omega arith);
     untagged_c = ap tag_bit link_d ∙ (omega arith);
+    bare_c = ap (λ (w : ℕ). w % 16) link_d ∙ p;
     to_c = ap target (link_d ∙ sym word_is);
     home = ap (bucket z.heads) key_d ∙ stands_at.2;
     above = subst (IsBelow (heap z words g.status) may.source) (sym key_d) stands_at.1;
@@ -296,7 +298,7 @@ module _ (opens : Sizes → List ℕ) where
   missed_keeps true n new bad = absurd (false≢true bad)
   missed_keeps false n new is = refl
 
-  stores_none : (hit : Bool) → stores (cond hit publish_step missed_step) ≡ false
+  stores_none : (hit : Bool) → goes_aside (cond hit publish_step missed_step) ≡ false
   stores_none true = refl
   stores_none false = refl
 

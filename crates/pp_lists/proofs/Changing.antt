@@ -1,5 +1,5 @@
 -- The shape of the lists and the map after a mark and after a publication.
-use Rattle.std.proofs.Common.{◌≡◌, ◌≢◌, ◌⊎◌, inl, inr, ⊎_elim, ℕ, ◌+◌, ◌<◌, ◌≤◌, List}
+use Rattle.std.proofs.Common.{◌≡◌, ◌≢◌, ◌%◌, ◌⊎◌, inl, inr, ⊎_elim, ℕ, ◌+◌, ◌<◌, ◌≤◌, List}
 use Rattle.std.proofs.Common.{[], ◌∷◌, Option, Some, None, sym, refl, ap, ◌∙◌, subst, arith}
 use Rattle.std.proofs.Math.Decide.{ℕ_discrete}
 use mathlib.Core.Logic.{dite}
@@ -11,7 +11,7 @@ use Rattle.pp_model.proofs.Finding.{find_put, find_put_else, find_drop, find_dro
 use Rattle.pp_model.specs.FiniteMap.{find, put, drop_key}
 use Rattle.pp_model.specs.declared.Pair.{Pair}
 use Rattle.pp_rule.specs.States.{attached, IsUsed, IsLinked}
-use Rattle.pp_lists.specs.Walks.{Heap, Source, at_head, at_record, word_at, IsLive, bucket, bucket_at, IsBelow, Sane}
+use Rattle.pp_lists.specs.Walks.{Heap, Source, at_head, at_record, word_at, IsLive, bucket, IsBareAt, bucket_at, IsBelow, Sane}
 use Rattle.pp_lists.specs.Walks.{Listed, Mapped, Joined, Intact, Marked, Between}
 use Rattle.pp_lists.specs.Walks.Joined.{more}
 use Rattle.pp_lists.specs.declared.own.Gathered.{Gathered}
@@ -71,6 +71,13 @@ module _ (z : Sizes) (t t' : Heap) (c : ℕ) (sane : Sane z t) (sane' : Sane z t
   target_key r live some = d.wired.keys (target (word_at t' r))
       (on_number z t' (target (word_at t' r)) some (sane'.live r live)).0 ∙ ap t.key (same_target r live)
 
+  bare_marked : (r : Source) → IsLive z t' r → IsBareAt t' r
+  bare_marked (at_head h) live = subst (λ (x : ℕ). x % 16 ≡ 0) (sym (d.wired.heads h live (λ e. cc))) (l.bare (at_head h) live)
+  bare_marked (at_record n) live = dite (ℕ_discrete n c)
+      (λ at. let now : t'.link n ≡ t.link c + 1 = ap t'.link at ∙ d.wired.there in
+      let old : t.link c % 16 < 2 = l.bare (at_record c) d.live in let plain = d.plain in omega arith)
+      (λ ne. subst (λ (x : ℕ). x % 16 < 2) (sym (d.wired.links n live.0 (λ e. ne (cc)))) (l.bare (at_record n) (was (at_record n) live)))
+
   pub listed_marked : Listed z t'
   listed_marked = record {
     rising = λ n is_n lk ok some. let y = link_is n is_n in let k1 = d.wired.keys n is_n in
@@ -88,6 +95,7 @@ module _ (z : Sizes) (t t' : Heap) (c : ℕ) (sane : Sane z t) (sane' : Sane z t
         (λ at. let now : t'.link n ≡ t.link c + 1 = ap t'.link at ∙ d.wired.there in
         let old = l.untagged c d.live.0 (is_used (t.status c) d.live.1) in let plain = d.plain in ap tag_bit now ∙ (omega arith))
         (λ ne. ap tag_bit (d.wired.links n is_n (λ e. ne (cc))) ∙ l.untagged n is_n (subst IsUsed (d.same n) u));
+    bare = bare_marked;
     once = λ n m is_n is_m st st' e. l.once n m is_n is_m (sym (d.same n) ∙ st) (sym (d.same m) ∙ st')
         (sym (d.wired.keys n is_n) ∙ (e ∙ d.wired.keys m is_m));
     home = λ r live some. ap (bucket z.heads) (target_key r live some)
@@ -201,6 +209,19 @@ module _ (z : Sizes) (t t' : Heap) (s : Source) (w c : ℕ) (sane : Sane z t) (s
           let lt = gap y.0 in let le = y.1 in absurd (omega arith))
           (less_or (t.key m) (t.key n))
 
+  bare_published : (r : Source) → IsLive z t' r → IsBareAt t' r
+  bare_published (at_head h) live = ⊎_elim
+      (λ (at : at_head h ≡ s). subst (λ (x : ℕ). x % 16 ≡ 0) (sym (ap (word_at t') at ∙ d.wired.there)) d.new_bare)
+      (λ (ne : at_head h ≢ s). subst (λ (x : ℕ). x % 16 ≡ 0) (sym (d.wired.heads h live ne)) (l.bare (at_head h) live))
+      (decided (at_head h) s)
+  bare_published (at_record n) live = ⊎_elim
+      (λ (at : at_record n ≡ s). subst (λ (x : ℕ). x % 16 < 2) (sym (ap (word_at t') at ∙ d.wired.there))
+      (let none = d.new_bare in omega arith))
+      (λ (ne : at_record n ≢ s). subst (λ (x : ℕ). x % 16 < 2) (sym (d.wired.links n live.0 ne)) (dite (ℕ_discrete n c)
+      (λ e. subst (λ (m : ℕ). t.link m % 16 < 2) (sym e) (let none = d.bare_c in omega arith))
+      (λ other. l.bare (at_record n) (live.0, sym (d.others n other) ∙ live.1))))
+      (is_there n s)
+
   pub listed_published : Listed z t'
   listed_published = record {
     rising = λ n is_n lk ok some. let u = linked_used (t'.status n) lk in let k1 = d.wired.keys n is_n in
@@ -238,6 +259,7 @@ module _ (z : Sizes) (t t' : Heap) (s : Source) (w c : ℕ) (sane : Sane z t) (s
         (λ ne. ⊎_elim (λ (at : at_record n ≡ s). ap (λ (r : Source). tag_bit (word_at t' r)) at
         ∙ (ap tag_bit d.wired.there ∙ d.new_untagged)) (λ (else_at : at_record n ≢ s). ap tag_bit (d.wired.links n is_n else_at)
         ∙ l.untagged n is_n (used_on n ne u)) (is_there n s));
+    bare = bare_published;
     once = λ n m is_n is_m st st' e. let e' : t.key n ≡ t.key m = sym (d.wired.keys n is_n) ∙ (e ∙ d.wired.keys m is_m) in
         dite (ℕ_discrete n c)
         (λ a. dite (ℕ_discrete m c) (λ b. a ∙ sym b) (λ ne. absurd

@@ -40,7 +40,7 @@ not_counted x [] out = times_nil x
 not_counted x (n ∷ ns) out = times_else x n ns (λ e. out (subst (λ (m : ℕ). IsIn m (n ∷ ns)) e (in_first n ns)))
     ∙ not_counted x ns (λ i. out (in_later x n ns i))
 
-counted : (x : ℕ) (ns : List ℕ) → IsIn x ns → 1 ≤ times x ns
+pub counted : (x : ℕ) (ns : List ℕ) → IsIn x ns → 1 ≤ times x ns
 counted x [] i = absurd (in_nil x i)
 counted x (n ∷ ns) i = dite (ℕ_discrete n x)
     (λ e. let one = times_here x n ns e in omega arith)
@@ -265,7 +265,7 @@ module _ (z : Sizes) (words : List ℕ) (g : ListState) (b : Base 1 z words g) (
     pub state : g.status m ≡ attached
     pub plain : flag_bit (cell_word words z m 2) ≡ 0
 
-  live_in : (h m : ℕ) → h ≤ z.heads → IsIn m (live_of z words h) → IsAlive m × (bucket z.heads (cell_word words z m 0) < h)
+  pub live_in : (h m : ℕ) → h ≤ z.heads → IsIn m (live_of z words h) → IsAlive m × (bucket z.heads (cell_word words z m 0) < h)
   live_in zero m le i = absurd (in_nil m (subst (λ (l : List ℕ). IsIn m l) (live_none z words) i))
   live_in (suc h) m le i = ⊎_elim (λ (j : IsIn m (live_of z words h)). let y = live_in h m (omega arith) j in let lt = y.1 in
       (y.0, omega arith))
@@ -275,7 +275,7 @@ module _ (z : Sizes) (words : List ℕ) (g : ListState) (b : Base 1 z words g) (
       (record { number = o.number; state = o.state; plain = u.1 }, omega arith))
       (in_either m (live_of z words h) (live_at z words h) (subst (λ (l : List ℕ). IsIn m l) (live_more z words h) i))
 
-  live_once : (h m : ℕ) → h ≤ z.heads → times m (live_of z words h) ≤ 1
+  pub live_once : (h m : ℕ) → h ≤ z.heads → times m (live_of z words h) ≤ 1
   live_once zero m le = let e = ap (times m) (live_none z words) in let nil = times_nil m in omega arith
   live_once (suc h) m le = let e = ap (times m) (live_more z words h) in
       let sum = times_append m (live_of z words h) (live_at z words h) in
@@ -290,7 +290,7 @@ module _ (z : Sizes) (words : List ℕ) (g : ListState) (b : Base 1 z words g) (
       (λ (out : IsIn m (live_at z words h) → ⊥). let none = not_counted m (live_at z words h) out in omega arith)
       (is_in_or m (live_at z words h))
 
-  live_all : (h m : ℕ) → h ≤ z.heads → IsAlive m → bucket z.heads (cell_word words z m 0) < h → IsIn m (live_of z words h)
+  pub live_all : (h m : ℕ) → h ≤ z.heads → IsAlive m → bucket z.heads (cell_word words z m 0) < h → IsIn m (live_of z words h)
   live_all zero m le a lt = absurd (omega arith)
   live_all (suc h) m le a lt = subst (λ (l : List ℕ). IsIn m l) (sym (live_more z words h))
       (dite (ℕ_discrete (bucket z.heads (cell_word words z m 0)) h)
@@ -366,7 +366,7 @@ module _ (z : Sizes) (words : List ℕ) (g : ListState) (b : Base 1 z words g) (
       (in_cases m n ns i))
 
   -- a record is in the list of some head
-  low_bucket : (m : ℕ) → bucket z.heads (cell_word words z m 0) < z.heads
+  pub low_bucket : (m : ℕ) → bucket z.heads (cell_word words z m 0) < z.heads
   unfolding bucket
   low_bucket m = let some_heads = b.within.some_heads in omega arith
 
@@ -421,7 +421,7 @@ in_order_length [] = refl
 in_order_length (p ∷ ps) = let one = length-put (in_order ps) p.key p.value in let rest = in_order_length ps in omega arith
 
 -- What a closed list tells, of the contents and the live numbers that its words have.
-told_gathered : (z : Sizes) (words : List ℕ) (g : ListState) → Base 1 z words g → Lists z words g
+pub told_gathered : (z : Sizes) (words : List ℕ) (g : ListState) → Base 1 z words g → Lists z words g
     → Gathers z (list_alive z words) × (length (list_alive z words) ≡ list_count (length (list_pairs z words)))
     × ListTells z (log_of g.order) (list_pairs z words)
 told_gathered z words g b lists = (

@@ -1,5 +1,5 @@
 -- A list meets the laws of a shape.
-use Rattle.std.proofs.Common.{◌≡◌, ◌≢◌, ℕ, ◌≤◌, List, [], refl}
+use Rattle.std.proofs.Common.{◌≡◌, ◌≢◌, ◌%◌, ℕ, ◌≤◌, List, [], refl}
 use Rattle.std.proofs.Common.{sym, ap, ◌∙◌, subst, arith}
 use Rattle.std.proofs.Math.Bool.{false≢true}
 use Rattle.std.proofs.lemmas.Bool.{eqb-true}
@@ -20,7 +20,7 @@ use Rattle.pp_rule.specs.Laws.{MayDetach, KeptDetached}
 use Rattle.pp_rule.proofs.Put.{in_nil}
 use Rattle.pp_rule.proofs.OpeningWords.{opening_head}
 use Rattle.pp_lists.specs.declared.own.ListOwn.{ListOwn}
-use Rattle.pp_lists.specs.Walks.{heap, Source, at_head, at_record, word_at, IsLive, bucket, bucket_at, Mapped}
+use Rattle.pp_lists.specs.Walks.{heap, Source, at_head, at_record, word_at, IsLive, bucket, bucket_at, Mapped, IsBareAt}
 use Rattle.pp_lists.specs.Lists.{ListPass, ListStep, Walks, Lists, list_frozen, list_forget, nobody, list_chain, MayUnlink}
 use Rattle.pp_lists.specs.Lists.{list_head, list_field}
 use Rattle.pp_lists.proofs.Shaping.{linked_used}
@@ -70,6 +70,7 @@ list_opened z g within low b o = let words : List ℕ = Rattle.pp_rule.specs.Ope
         same_list = λ n is_n lk _ _. absurd (none n is_n (linked_used (g.status n) lk));
         marked = λ n is_n u _. absurd (none n is_n u);
         untagged = λ n is_n u. absurd (none n is_n u);
+        bare = bare_open;
         once = λ n m is_n _ st _ _. absurd (no_one n is_n st);
         home = nothing_from;
         next = λ s m _ is_m st _ _. absurd (no_one m is_m st);
@@ -104,6 +105,12 @@ list_opened z g within low b o = let words : List ℕ = Rattle.pp_rule.specs.Ope
 
     no_one : (n : ℕ) → IsNumber z n → g.status n ≡ attached → ⊥
     no_one n is_n st = none n is_n (subst IsUsed (sym st) tt)
+
+    bare_open : (s : Source)
+        → IsLive z (heap z (Rattle.pp_rule.specs.Opening.opening_words 0 list_head list_field z) g.status) s
+        → IsBareAt (heap z (Rattle.pp_rule.specs.Opening.opening_words 0 list_head list_field z) g.status) s
+    bare_open (at_head h) live = ap (λ (w : ℕ). w % 16) (opening_head 0 list_head list_field z h live)
+    bare_open (at_record n) live = absurd (no_one n live.0 live.1)
 
     nothing_from : (s : Source)
         → IsLive z (heap z (Rattle.pp_rule.specs.Opening.opening_words 0 list_head list_field z) g.status) s

@@ -18,3 +18,4 @@ pub mod Ordering
 pub mod Closing
 pub mod Losing
 pub mod Reading
+pub mod Cleaning

@@ -1,5 +1,5 @@
 -- The shape of the lists after a step that adds no record.
-use Rattle.std.proofs.Common.{◌≡◌, ◌≢◌, ◌⊎◌, inl, inr, ⊎_elim, ℕ, ◌<◌, ◌≤◌, List}
+use Rattle.std.proofs.Common.{◌≡◌, ◌≢◌, ◌%◌, ◌⊎◌, inl, inr, ⊎_elim, ℕ, ◌<◌, ◌≤◌, List}
 use Rattle.std.proofs.Common.{[], ◌∷◌, Some, sym, refl, ap, ◌∙◌, subst, arith}
 use Rattle.std.proofs.Math.Decide.{ℕ_discrete}
 use mathlib.Core.Logic.{dite}
@@ -10,7 +10,7 @@ use Rattle.pp_model.specs.FiniteMap.{find}
 use Rattle.pp_model.specs.declared.Pair.{Pair}
 use Rattle.pp_rule.specs.Lists.{IsIn}
 use Rattle.pp_rule.specs.States.{RecordState, attached, in_hand, retired, owned, shelved, IsUsed, IsLinked}
-use Rattle.pp_lists.specs.Walks.{Heap, Source, at_head, at_record, word_at, IsLive, bucket, bucket_at, IsBelow, IsSeen, IsOn}
+use Rattle.pp_lists.specs.Walks.{Heap, Source, at_head, at_record, word_at, IsLive, bucket, IsBareAt, bucket_at, IsBelow, IsSeen, IsOn}
 use Rattle.pp_lists.specs.Walks.{Sane}
 use Rattle.pp_lists.specs.Walks.{Listed, Mapped, Joined, Intact, Taken, numbers}
 use Rattle.pp_lists.specs.Walks.Joined.{more}
@@ -62,6 +62,11 @@ module _ (z : Sizes) (t t' : Heap) (f : Fewer z t t') (sane' : Sane z t') where
   target_key s live some = let y = on_number z t' (target (word_at t' s)) some (sane'.live s live) in
       key_of (target (word_at t' s)) y.0 y.1 ∙ ap (λ (w : ℕ). t.key (target w)) (was_live s live).1
 
+  bare_fewer : Listed z t → (s : Source) → IsLive z t' s → IsBareAt t' s
+  bare_fewer l (at_head h) live = subst (λ (w : ℕ). w % 16 ≡ 0) (sym (f.heads h live)) (l.bare (at_head h) live)
+  bare_fewer l (at_record n) live = let y = was_live (at_record n) live in
+      subst (λ (w : ℕ). w % 16 < 2) (sym y.1) (l.bare (at_record n) y.0)
+
   pub listed_fewer : Listed z t → Listed z t'
   listed_fewer l = record {
     rising = λ n is_n lk ok some. let u = linked_used (t'.status n) lk in let same = f.valid_links n is_n u ok in
@@ -77,6 +82,7 @@ module _ (z : Sizes) (t t' : Heap) (f : Fewer z t t') (sane' : Sane z t') where
         (λ e. some (ap target same ∙ e)) ∙ ap (bucket z.heads) (sym (f.keys n is_n u)));
     marked = λ n is_n u flag. f.attached_on n (l.marked n is_n (f.used_was n u) (sym (f.flags n is_n u) ∙ flag));
     untagged = λ n is_n u. f.tags n is_n u ∙ l.untagged n is_n (f.used_was n u);
+    bare = bare_fewer l;
     once = λ n m is_n is_m st st' e. l.once n m is_n is_m (was_attached n st) (was_attached m st')
         (sym (key_of n is_n st) ∙ (e ∙ key_of m is_m st'));
     home = λ s live some. let y = was_live s live in ap (bucket z.heads) (target_key s live some)
@@ -165,6 +171,15 @@ module _ (z : Sizes) (t t' : Heap) (s : Source) (w : ℕ) (cs : List Gathered) (
   on_there : (n : ℕ) → IsOn z t' n → n ≢ 0 → t'.key n ≡ t.key n
   on_there n seen ne = d.wired.keys n (on_number z t' n ne seen).0
 
+  bare_there : (r : Source) → word_at t' r ≡ w → IsBareAt t' r
+  bare_there (at_head h) now = subst (λ (x : ℕ). x % 16 ≡ 0) (sym now) d.new_bare
+  bare_there (at_record n) now = subst (λ (x : ℕ). x % 16 < 2) (sym now) (let none = d.new_bare in omega arith)
+
+  bare_else : (r : Source) → IsLive z t' r → r ≢ s → IsBareAt t' r
+  bare_else (at_head h) live ne = subst (λ (x : ℕ). x % 16 ≡ 0) (sym (wired (at_head h) live ne)) (l.bare (at_head h) live)
+  bare_else (at_record n) live ne = subst (λ (x : ℕ). x % 16 < 2) (sym (wired (at_record n) live ne))
+      (l.bare (at_record n) (was (at_record n) live))
+
   pub listed_detached : Listed z t'
   listed_detached = record {
     rising = λ n is_n lk ok some. let u = linked_used (t'.status n) lk in let k1 = d.wired.keys n is_n in
@@ -201,6 +216,8 @@ module _ (z : Sizes) (t t' : Heap) (s : Source) (w : ℕ) (cs : List Gathered) (
     untagged = λ n is_n u. ⊎_elim (λ (at : at_record n ≡ s). ap (λ (r : Source). tag_bit (word_at t' r)) at
         ∙ (ap tag_bit d.wired.there ∙ d.new_untagged)) (λ (else_at : at_record n ≢ s). ap tag_bit (d.wired.links n is_n else_at)
         ∙ l.untagged n is_n (still_used n u)) (is_there n s);
+    bare = λ r live. ⊎_elim (λ (at : r ≡ s). bare_there r (ap (word_at t') at ∙ d.wired.there))
+        (λ (else_at : r ≢ s). bare_else r live else_at) (decided r);
     once = λ n m is_n is_m st st' e. l.once n m is_n is_m (still n st).0 (still m st').0
         (sym (d.wired.keys n is_n) ∙ (e ∙ d.wired.keys m is_m));
     home = λ r live some. let k = on_there (target (word_at t' r)) (sane'.live r live) some in ap (bucket z.heads) k ∙ (⊎_elim

@@ -16,7 +16,7 @@ use Rattle.pp_model.specs.declared.Placed.{Placed}
 use Rattle.pp_model.specs.Calls.{key_of}
 use Rattle.pp_model.proofs.Histories.{fits_within}
 use Rattle.pp_rule.specs.declared.views.WalkSlot.{WalkSlot}
-use Rattle.pp_rule.specs.Orders.{log_of, placed_by, stores, load_step, confirm_step}
+use Rattle.pp_rule.specs.Orders.{log_of, placed_by, goes_aside, load_step, confirm_step}
 use Rattle.pp_rule.specs.declared.views.Halves.{Halves}
 use Rattle.pp_rule.specs.Views.{slot, halves}
 use Rattle.pp_rule.specs.States.{attached, IsUsed}
@@ -298,7 +298,7 @@ module _ (opens : Sizes → List ℕ) where
   abbrev end_kind : Bool → ℕ
   end_kind ending = cond ending end_step load_step
 
-  end_loads : (ending : Bool) → stores (end_kind ending) ≡ false
+  end_loads : (ending : Bool) → goes_aside (end_kind ending) ≡ false
   end_loads true = refl
   end_loads false = refl
 

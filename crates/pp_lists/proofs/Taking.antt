@@ -369,6 +369,7 @@ module _ (z : Sizes) (words : List ℕ) (g : ListState) (q : ListPass) (place gu
         plain = plain;
         new_plain = new_plain;
         new_untagged = (let p = may.new_plain in omega arith);
+        new_bare = may.new_plain;
         new_valid = (let p = may.new_plain in omega arith);
         joined = joined;
         intact = intact;

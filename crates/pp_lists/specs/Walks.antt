@@ -83,6 +83,11 @@ pub record Sane (z : Sizes) (t : Heap) : Type 0 where
   pub live : (s : Source) → IsLive z t s → IsOn z t (target (word_at t s))
   pub used : (n : ℕ) → IsNumber z n → IsUsed (t.status n) → invalid_bit (t.link n) ≡ 0 → IsSeen z t (target (t.link n))
 
+-- the word at a source has no bit but FLAG, and that of a head has none
+abbrev pub IsBareAt : Heap → Source → Type 0
+IsBareAt t (at_head h) = t.head h % 16 ≡ 0
+IsBareAt t (at_record n) = t.link n % 16 < 2
+
 -- the shape of the lists
 pub record Listed (z : Sizes) (t : Heap) : Type 0 where
   pub rising : (n : ℕ) → IsNumber z n → IsLinked (t.status n) → invalid_bit (t.link n) ≡ 0 → target (t.link n) ≢ 0
@@ -93,6 +98,7 @@ pub record Listed (z : Sizes) (t : Heap) : Type 0 where
   -- a record without FLAG is attached
   pub marked : (n : ℕ) → IsNumber z n → IsUsed (t.status n) → flag_bit (t.link n) ≡ 0 → t.status n ≡ attached
   pub untagged : (n : ℕ) → IsNumber z n → IsUsed (t.status n) → tag_bit (t.link n) ≡ 0
+  pub bare : (s : Source) → IsLive z t s → IsBareAt t s
   pub once : (n m : ℕ) → IsNumber z n → IsNumber z m → t.status n ≡ attached → t.status m ≡ attached → t.key n ≡ t.key m → n ≡ m
   pub home : (s : Source) → IsLive z t s → target (word_at t s) ≢ 0
       → bucket z.heads (t.key (target (word_at t s))) ≡ bucket_at z t s
@@ -144,6 +150,7 @@ pub record Taken (z : Sizes) (t t' : Heap) (s : Source) (w : ℕ) (cs : List Gat
   pub new_plain : flag_bit w ≡ 0
   pub new_untagged : tag_bit w ≡ 0
   pub new_valid : invalid_bit w ≡ 0
+  pub new_bare : w % 16 ≡ 0
   pub joined : Joined (target (word_at t s)) cs (target w)
   pub intact : Intact z t cs
   pub inside : (n : ℕ) → IsIn n (numbers cs) → (p : ℕ) × ((j : ℕ) × (t'.status n ≡ in_hand p j))
@@ -165,6 +172,7 @@ pub record Between (z : Sizes) (t t' : Heap) (s : Source) (w c : ℕ) : Type 0 w
   pub new_plain : flag_bit w ≡ 0
   pub new_untagged : tag_bit w ≡ 0
   pub new_valid : invalid_bit w ≡ 0
+  pub new_bare : w % 16 ≡ 0
   pub number : IsNumber z c
   pub unused : IsUsed (t.status c) → ⊥
   pub attached_now : t'.status c ≡ attached
@@ -172,6 +180,7 @@ pub record Between (z : Sizes) (t t' : Heap) (s : Source) (w c : ℕ) : Type 0 w
   pub valid_c : invalid_bit (t.link c) ≡ 0
   pub plain_c : flag_bit (t.link c) ≡ 0
   pub untagged_c : tag_bit (t.link c) ≡ 0
+  pub bare_c : t.link c % 16 ≡ 0
   pub to_c : target (t.link c) ≡ target (word_at t s)
   pub home : bucket z.heads (t.key c) ≡ bucket_at z t s
   pub above : IsBelow t s (t.key c)

@@ -20,7 +20,7 @@ use Rattle.pp_rule.specs.declared.views.PrivateRecord.{PrivateRecord}
 use Rattle.pp_rule.specs.declared.views.PassState.{PassState}
 use Rattle.pp_rule.specs.declared.views.SeatView.{SeatView}
 use Rattle.pp_rule.specs.Lists.{times, remove_at}
-use Rattle.pp_rule.specs.Orders.{IsQuietStep, stores, only_loads, missed_step}
+use Rattle.pp_rule.specs.Orders.{IsQuietStep, goes_aside, only_loads, missed_step}
 use Rattle.pp_rule.specs.States.{attached, owned, IsLinked, PoolState, Stays, Leads}
 use Rattle.pp_rule.specs.Rule.{Base}
 use Rattle.pp_rule.specs.Ties.{Holds}
@@ -53,7 +53,7 @@ next_same n m few_n few_m e = ⊎_elim
     (λ (low : m < 5). let up = next_under m low in let down = next_over n high in absurd (omega arith))
     (λ (top : 5 ≤ m). omega arith) (cases_lt m 5)) (cases_lt n 5)
 
-stores_no : (hit : Bool) → stores (cond hit put_step missed_step) ≡ false
+stores_no : (hit : Bool) → goes_aside (cond hit put_step missed_step) ≡ false
 stores_no true = refl
 stores_no false = refl
 

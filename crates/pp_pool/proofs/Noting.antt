@@ -1,5 +1,5 @@
 -- What a pass keeps and learns where it makes a note, and where it learns one.
-use Rattle.std.proofs.Common.{◌≡◌, ℕ, List, [], ◌∷◌, ◌++◌, sym, ap, ◌∙◌, subst}
+use Rattle.std.proofs.Common.{◌≡◌, ℕ, ◌≤◌, List, [], ◌∷◌, ◌++◌, sym, ap, ◌∙◌, subst}
 use Rattle.atomic_table.specs.Table.{Me}
 use Rattle.atomic_table.specs.declared.shared.Seat.{Seat}
 use Rattle.pp_rule.specs.Lists.{IsIn, BeginsWith}
@@ -14,6 +14,12 @@ use Rattle.pp_base.specs.Passes.{known, view, IsPassOf, Keeping}
 use Rattle.pp_base.proofs.Steady.{keeping_idle}
 use Rattle.pp_base.specs.Made.{HasRun}
 use Rattle.pp_pool.specs.Noted.{HasLearnt}
+use Rattle.pp_link.specs.declared.layout.Sizes.{Sizes}
+use Rattle.pp_link.specs.Places.{IsWithin}
+use Rattle.pp_rule.specs.States.{PoolState}
+use Rattle.pp_rule.specs.Laws.{HeadsOpen, LinksOpen, MetAtOpening}
+use Rattle.pp_rule.specs.Opening.{dealt}
+use Rattle.pp_rule.proofs.Opening.{state_open, none_split}
 
 module _ {E A W : Type 0} where
   -- a seat with the view that it had stands for the pass as before
@@ -71,19 +77,21 @@ module _ {E A W : Type 0} where
     learnt_keeping sentinels sides number share walk p k = keeping_idle sentinels sides s s' (known s).sizes number share walk p k
         learnt_alone (subst (λ (q : PassState W). IsPassOf (known s).sizes q) (sym learnt_same) k.pass) learnt_same
 
--- a pass that has seen no step has seen a run
-pub run_open : {E A W : Type 0} (sentinels : ℕ) (head : ℕ → ℕ) (field : ℕ → ℕ → ℕ) (caller : E → ℕ)
-    (s : Seat Unit (SeatView E A W)) (q : PassState W)
-    → s.me ≡ (alone [] q, []) → HasRun sentinels head field caller (view s)
-run_open {E} {A} {W} sentinels head field caller s q is =
-    subst (λ (m : Me Unit (SeatView E A W)). HasRun sentinels head field caller m.0) (sym is)
+-- A pass that has seen no step of a pool that opened has seen a run, and the words are those of the opening.
+pub run_open : {E A W : Type 0} (sides sentinels : ℕ) (head : ℕ → ℕ) (field : ℕ → ℕ → ℕ)
+    (addition : Sizes → List ℕ → PoolState E A W → Type 0) (own : W) (caller : E → ℕ) (z : Sizes) (n : ℕ)
+    (s : Seat Unit (SeatView E A W)) → sides ≤ 2 → IsWithin z → sentinels ≤ z.records
+    → HeadsOpen sentinels head → LinksOpen sides sentinels field → MetAtOpening sides addition sentinels head field own
+    → s.me ≡ (alone [] (dealt sentinels own z n), []) → HasRun sides sentinels head field addition caller (view s)
+run_open {E} {A} {W} sides sentinels head field addition own caller z n s two within most heads links met is =
+    subst (λ (m : Me Unit (SeatView E A W)). HasRun sides sentinels head field addition caller m.0) (sym is)
     (λ standing. record {
-      finds = λ before after e none. absurd (some_there before after e none);
-      kept = λ e i. absurd (in_nil e i);
-      made = λ e i. absurd (in_nil e i);
-      own = λ e i. absurd (in_nil e i);
+      run = record {
+        finds = λ before after e none. absurd (none_split before after e none);
+        kept = λ e i. absurd (in_nil e i);
+        made = λ e i. absurd (in_nil e i);
+        own = λ e i. absurd (in_nil e i);
+        aside = λ before after e none. absurd (none_split before after e none);
+      };
+      whole = λ one none. none (state_open sides sentinels head field own z addition n two within most heads links met);
     })
-  where
-    some_there : (before after : List (LoggedStep E A)) (e : LoggedStep E A) → [] ≡ before ++ e ∷ after → ⊥
-    some_there before after e none =
-        in_nil e (subst (λ (l : List (LoggedStep E A)). IsIn e l) (sym none) (in_right e before (e ∷ after) (in_first e after)))

@@ -31,7 +31,7 @@ use Rattle.pp_queues.specs.declared.calls.QueuePlaced.{QueuePlaced}
 use Rattle.pp_model.specs.Objects.{after}
 use Rattle.pp_queues.specs.Contents.{queue_caller}
 use Rattle.pp_queues.specs.Queue.{queue, reply, placed}
-use Rattle.pp_queues.specs.Queues.{QueuePass, QueueView, HasOwn, queue_head, queue_field}
+use Rattle.pp_queues.specs.Queues.{QueuePass, QueueView, HasOwn, Queues, queue_head, queue_field}
 use Rattle.pp_queues.specs.Turns.{StandsThen}
 use Rattle.pp_queues.specs.Losses.{Tally, losing, striking, Ran}
 use Rattle.pp_queues.specs.Calls.{queue_view, map_sizes, TriedToMove, AnswersQueue, put_answer, take_answer}
@@ -74,9 +74,9 @@ empty_of z q walk pass is none j lo lt = let named : (slot q j).named ≡ 0 =
     (is_false (slot q j).held (λ h. let number = (pass.held j lt h).0 in omega arith), named)
 
 -- the changes of the steps that a pass has seen are their passes' own
-pub own_of : (s : Seat Unit QueueView) → IsAlone s.me → HasRun 1 queue_head queue_field queue_caller (view s)
+pub own_of : (s : Seat Unit QueueView) → IsAlone s.me → HasRun 1 1 queue_head queue_field Queues queue_caller (view s)
     → HasOwn (view s).order
-own_of s lone run = (run (ap (λ (v : QueueView). v.standing) lone.1)).own
+own_of s lone run = (run (ap (λ (v : QueueView). v.standing) lone.1)).run.own
 
 -- the first of some steps and of more
 seen_front : (xs ys : List Step) → 0 < length xs → seen_first 0 (xs ++ ys) ≡ seen_first 0 xs

@@ -12,7 +12,7 @@ use Rattle.pp_link.specs.Links.{target, invalid_bit}
 use Rattle.pp_link.specs.Places.{IsNumber, head_place, cell_place}
 use Rattle.pp_link.specs.Words.{head_word, cell_word}
 use Rattle.pp_rule.specs.declared.views.WalkSlot.{WalkSlot}
-use Rattle.pp_rule.specs.Orders.{log_of, placed_by, stores, load_step, confirm_step}
+use Rattle.pp_rule.specs.Orders.{log_of, placed_by, goes_aside, load_step, confirm_step}
 use Rattle.pp_rule.specs.declared.views.Halves.{Halves}
 use Rattle.pp_rule.specs.Views.{halves, slot}
 use Rattle.pp_rule.specs.States.{attached, IsUsed, Held}
@@ -488,7 +488,7 @@ module _ (opens : Sizes → List ℕ) where
   abbrev pub try_kind : Bool → ℕ
   try_kind none = cond none empty_step load_step
 
-  try_loads : (none : Bool) → stores (try_kind none) ≡ false
+  try_loads : (none : Bool) → goes_aside (try_kind none) ≡ false
   try_loads true = refl
   try_loads false = refl
 

@@ -20,7 +20,7 @@ use Rattle.pp_link.proofs.Stores.{cell_stored}
 use Rattle.pp_model.specs.Lists.{AtEach}
 use Rattle.pp_rule.specs.declared.views.PrivateRecord.{PrivateRecord}
 use Rattle.pp_rule.specs.Lists.{IsIn}
-use Rattle.pp_rule.specs.Orders.{only_loads, log_of, placed_by, stores, missed_step}
+use Rattle.pp_rule.specs.Orders.{only_loads, log_of, placed_by, goes_aside, missed_step}
 use Rattle.pp_rule.specs.Views.{halves, value_of, slot}
 use Rattle.pp_rule.specs.States.{RecordState, attached, owned, IsUsed, IsFrozen, Stays, Held, Leads}
 use Rattle.pp_rule.specs.Rule.{Base, Reads}
@@ -204,7 +204,7 @@ module _ (opens : Sizes → List ℕ) where
   missed_leaves true m new bad = absurd (false≢true bad)
   missed_leaves false m new e = refl
 
-  stores_none : (hit : Bool) → stores (cond hit put_step missed_step) ≡ false
+  stores_none : (hit : Bool) → goes_aside (cond hit put_step missed_step) ≡ false
   stores_none true = refl
   stores_none false = refl
 

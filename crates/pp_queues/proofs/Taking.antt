@@ -16,7 +16,7 @@ use Rattle.pp_link.proofs.Stores.{head_stored}
 use Rattle.pp_rule.specs.declared.views.Chain.{Chain}
 use Rattle.pp_rule.specs.declared.views.ChainLink.{ChainLink}
 use Rattle.pp_rule.specs.Lists.{IsIn, Once}
-use Rattle.pp_rule.specs.Orders.{only_loads, log_of, placed_by, stores, missed_step}
+use Rattle.pp_rule.specs.Orders.{only_loads, log_of, placed_by, goes_aside, missed_step}
 use Rattle.pp_rule.specs.Views.{halves, value_of, slot}
 use Rattle.pp_rule.specs.States.{RecordState, attached, in_hand, IsUsed, SameTarget, Held}
 use Rattle.pp_rule.specs.Rule.{Base}
@@ -265,7 +265,7 @@ module _ (opens : Sizes → List ℕ) where
   missed_leaves true m new bad = absurd (false≢true bad)
   missed_leaves false m new e = refl
 
-  stores_none : (hit : Bool) → stores (cond hit take_step missed_step) ≡ false
+  stores_none : (hit : Bool) → goes_aside (cond hit take_step missed_step) ≡ false
   stores_none true = refl
   stores_none false = refl
 

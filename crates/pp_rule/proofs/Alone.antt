@@ -4,7 +4,7 @@ use Rattle.std.proofs.Common.{◌≡◌, ℕ, ◌+◌, ◌<◌, Bool, true, fals
 use Rattle.std.proofs.Common.{◌∙◌, subst}
 use Rattle.std.proofs.Common.{append-nil, length-append, append_assoc, arith, ⊎_elim}
 use Rattle.std.proofs.lemmas.List.{nil_from_length}
-use Rattle.atomic_table.specs.Table.{Me, Allows}
+use Rattle.atomic_table.specs.Table.{Me, Allows, State}
 use Rattle.atomic_table.proofs.Lists.{set_here}
 use Rattle.pp_link.specs.declared.layout.Sizes.{Sizes}
 use Rattle.pp_rule.specs.Lists.{IsIn, BeginsWith}
@@ -12,9 +12,9 @@ use Rattle.pp_rule.specs.Orders.{LoggedStep, OrderEntry, replayed, FindsWord, Is
 use Rattle.pp_rule.specs.Views.{PassState, SeatView, all_of}
 use Rattle.pp_rule.specs.States.{PoolState}
 use Rattle.pp_rule.specs.Rule.{Base}
-use Rattle.pp_rule.specs.Ties.{TiedPass, Tied, Runs, Holds}
+use Rattle.pp_rule.specs.Ties.{TiedPass, Tied, Runs, Holds, GoAside}
 use Rattle.pp_rule.specs.Steps.{entry, alone, IsAlone, MadeStep}
-use Rattle.pp_rule.specs.Alone.{SeesAll, IsRun, IsOwnStep, HasOwnChanges}
+use Rattle.pp_rule.specs.Alone.{SeesAll, IsRun, IsOwnStep, HasOwnChanges, SeenState, SeesState, HasSeen}
 use Rattle.pp_rule.proofs.Put.{in_nil, in_first, in_right, in_left, in_cases, at_below}
 use Rattle.pp_rule.proofs.Histories.{made_append, entries_append}
 use Rattle.pp_rule.proofs.Seats.{none_made}
@@ -70,10 +70,11 @@ module _ {E A : Type 0} where
   entries_middle before after s = entries_append before (s ∷ after)
 
   -- what was seen of a run is one
-  pub run_seen : (caller : E → ℕ) (opens words : List ℕ) (z : Sizes) (all order : List (LoggedStep E A)) → BeginsWith all order
+  pub run_seen : (sides : ℕ) (caller : E → ℕ) (opens words : List ℕ) (z : Sizes) (all order : List (LoggedStep E A)) → BeginsWith all order
       → Runs opens words all → ((s : LoggedStep E A) → IsIn s all → s.entry.pass < z.passes)
-      → ((s : LoggedStep E A) → IsIn s all → IsOwnStep caller s) → IsRun caller opens z order
-  run_seen caller opens words z all order begins runs made own = record {
+      → ((s : LoggedStep E A) → IsIn s all → IsOwnStep caller s) → GoAside sides z opens all
+      → IsRun sides caller opens z order
+  run_seen sides caller opens words z all order begins runs made own aside = record {
     finds = λ before after s is.
         let split : all ≡ before ++ s ∷ (after ++ begins.0) =
         begins.1 ∙ (ap (λ l. l ++ begins.0) is ∙ append_assoc before (s ∷ after) begins.0) in
@@ -82,6 +83,8 @@ module _ {E A : Type 0} where
     kept = λ s i. runs.kept s (in_all s i);
     made = λ s i. made s (in_all s i);
     own = λ s i. own s (in_all s i);
+    aside = λ before after s is. aside before (after ++ begins.0) s
+        (begins.1 ∙ (ap (λ l. l ++ begins.0) is ∙ append_assoc before (s ∷ after) begins.0));
   }
     where
       in_all : (s : LoggedStep E A) → IsIn s order → IsIn s all
@@ -119,17 +122,11 @@ module _ {E A W : Type 0} (sides : ℕ) (opens : Sizes → List ℕ) (addition :
       (at_below s.views id me.0 at))) after.ties.made after.runs after.base after.added in
       (w, r.1, r.2, after, (said, (was, is)))
 
-  -- the order that the pass has seen is a run
-  pub sees_run : (caller : E → ℕ) → HasOwnChanges addition caller
-      → SeesAll sides opens addition z (λ v. IsRun caller (opens z) z v.order)
-  sees_run caller owns words g v base added runs made all own = run_seen caller (opens z) words z g.order v.order
-      ([], all ∙ sym (append-nil v.order)) runs made (owns z words g added)
-
   -- The word that a step of the one pass found is the one that the pass's own order left there.
   pub finds_standing : {kind place word left : ℕ} {changes : List E} {placed : List A} {caller : E → ℕ}
       (known : PassState W) (before after : SeatView E A W)
       → z.passes ≡ 1 → before.known.number < z.passes → MadeStep kind place word left changes placed known before after
-      → IsRun caller (opens z) z after.order → stores kind ≡ false
+      → IsRun sides caller (opens z) z after.order → stores kind ≡ false
       → word ≡ get_or (replayed (opens z) (entries_of before.order)) place 0
   finds_standing {kind} {place} {word} {left} {changes} {placed} {caller} known before after one low made run loads =
       let e : LoggedStep E A = entry kind place word left changes placed made.so_far known in
@@ -141,31 +138,50 @@ module _ {E A W : Type 0} (sides : ℕ) (opens : Sizes → List ℕ) (addition :
       (run.finds made.so_far [] e is).found loads
       ∙ ap (λ o. get_or (replayed (opens z) (entries_of o)) place 0) same
 
-  -- After each step of a seat that stands for a pass, the order that it has seen is a run of this pool, whatever the other
-  -- passes do.
-  pub tells_run : (caller : E → ℕ) → HasOwnChanges addition caller → (slots id : ℕ) (me : Me Unit (SeatView E A W))
+  -- What a seat that stands for a pass has seen, by the rule that holds then: a run of this pool, and where there is one pass the
+  -- rule of the words that its order leaves.
+  pub has_seen : (caller : E → ℕ) → HasOwnChanges addition caller → (s : State Unit (SeatView E A W)) → (id : ℕ) (w : SeatView E A W)
+      → (h : Holds sides opens addition z s) → Tied z h.pool h.ties.seat_of id w → w.standing ≡ true → HasSeen sides opens addition caller w
+  has_seen caller owns s id w h tied standing =
+      let g : PoolState E A W = h.pool in
+      let all_w : all_of w ≡ w.known ∷ w.taken = ap (λ (b : Bool). cond b (w.known ∷ w.taken) []) standing in
+      let mine : TiedPass z g h.ties.seat_of id w.order w.known =
+      tied.each w.known (subst (λ (l : List (PassState W)). IsIn w.known l) (sym all_w) (in_first w.known w.taken)) in
+      let run : IsRun sides caller (opens z) z w.order =
+      run_seen sides caller (opens z) s.words z g.order w.order tied.begins h.runs h.ties.made (owns z s.words g h.added) h.aside in
+      record {
+        run = subst (λ (y : Sizes). IsRun sides caller (opens y) y w.order) (sym mine.sizes) run;
+        whole = λ one none.
+            let order : g.order ≡ w.order = none_further z.passes w.known.number g.order w.order
+            (sym (ap (λ (y : Sizes). y.passes) mine.sizes) ∙ one) mine.number tied.begins mine.steps h.ties.made in
+            let left : s.words ≡ replayed (opens w.known.sizes) (entries_of w.order) = sym h.runs.leaves
+            ∙ (ap (λ (y : Sizes). replayed (opens y) (entries_of g.order)) (sym mine.sizes)
+            ∙ ap (λ (o : List (LoggedStep E A)). replayed (opens w.known.sizes) (entries_of o)) order) in
+            none record {
+              pool = g;
+              base = subst (λ (words : List ℕ). Base sides w.known.sizes words g) left
+                  (subst (λ (y : Sizes). Base sides y s.words g) (sym mine.sizes) h.base);
+              added = subst (λ (words : List ℕ). addition w.known.sizes words g) left
+                  (subst (λ (y : Sizes). addition y s.words g) (sym mine.sizes) h.added);
+              order = order;
+              known_is = mine.is;
+            };
+      }
+
+  -- After each step of a seat that stands for a pass.
+  pub tells_seen : (caller : E → ℕ) → HasOwnChanges addition caller → (slots id : ℕ) (me : Me Unit (SeatView E A W))
       (place : ℕ) (change : ℕ → ℕ) (then : ℕ → Me Unit (SeatView E A W) → Type 0)
       → Allows (Holds sides opens addition z) slots id me place change then
       → Allows (Holds sides opens addition z) slots id me place change
-      (λ n m. then n m × (m.0.standing ≡ true → IsRun caller (opens m.0.known.sizes) m.0.known.sizes m.0.order))
-  tells_run caller owns slots id me place change then a = λ s h deep at fits. let r = a s h deep at fits in
+      (λ n m. then n m × (m.0.standing ≡ true → HasSeen sides opens addition caller m.0))
+  tells_seen caller owns slots id me place change then a = λ s h deep at fits. let r = a s h deep at fits in
       let w : SeatView E A W = r.0 in
       let after = r.3 in
       let tied : Tied z after.pool after.ties.seat_of id w =
-      after.ties.each_seat id w (set_here s.views id w (at_below s.views id me.0 at)) in
-      let run : IsRun caller (opens z) z w.order =
-      run_seen caller (opens z) _ z after.pool.order w.order tied.begins after.runs after.ties.made
-      (owns z _ after.pool after.added) in (
+      after.ties.each_seat id w (set_here s.views id w (at_below s.views id me.0 at)) in (
         w,
         r.1,
         r.2,
         after,
-        (
-          r.4,
-          λ standing.
-              let all_w : all_of w ≡ w.known ∷ w.taken = ap (λ (b : Bool). cond b (w.known ∷ w.taken) []) standing in
-              let mine : TiedPass z after.pool after.ties.seat_of id w.order w.known =
-              tied.each w.known (subst (λ (l : List (PassState W)). IsIn w.known l) (sym all_w) (in_first w.known w.taken)) in
-              subst (λ (y : Sizes). IsRun caller (opens y) y w.order) (sym mine.sizes) run,
-        ),
+        (r.4, λ standing. has_seen caller owns _ id w after tied standing),
       )

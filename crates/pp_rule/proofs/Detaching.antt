@@ -14,7 +14,7 @@ use Rattle.pp_link.specs.Links.{target, invalid_bit}
 use Rattle.pp_link.specs.Places.{IsNumber, head_place, cell_place}
 use Rattle.pp_link.specs.Words.{frontier_word, shelf_word, head_word, cell_word}
 use Rattle.pp_rule.specs.Lists.{IsIn, OnceBy, Once}
-use Rattle.pp_rule.specs.Orders.{LoggedStep, stores, only_loads, detach_step, missed_step}
+use Rattle.pp_rule.specs.Orders.{LoggedStep, goes_aside, only_loads, detach_step, missed_step}
 use Rattle.pp_rule.specs.Views.{halves, WalkSlot, Chain, PassState, SeatView, slot, guarding}
 use Rattle.pp_rule.specs.States.{RecordState, attached, in_hand, retired, owned, shelved, IsUsed, IsStateIn, PoolState}
 use Rattle.pp_rule.specs.States.{IsSmall, Keeps, Leads, Leaves, Held, SameTarget}
@@ -346,7 +346,7 @@ module _ {E A W : Type 0} (sides : ℕ) (z : Sizes) (words : List ℕ) (g : Pool
 
 module _ {E A W : Type 0} (sides : ℕ) (opens : Sizes → List ℕ) (addition : Sizes → List ℕ → PoolState E A W → Type 0) where
   -- no exchange stores whatever stands there
-  stores_none : (hit : Bool) → stores (cond hit detach_step missed_step) ≡ false
+  stores_none : (hit : Bool) → goes_aside (cond hit detach_step missed_step) ≡ false
   stores_none true = refl
   stores_none false = refl
 

@@ -18,7 +18,7 @@ use Rattle.pp_rule.specs.Ties.{Holds}
 use Rattle.pp_rule.specs.Steps.{entry, IsAlone, MadeQuietStep, with_frontier, IsUnused}
 use Rattle.pp_rule.specs.Laws.{KeptAlike}
 use Rattle.pp_rule.proofs.Slots.{same_own, guarding_here, guarding_else}
-use Rattle.pp_rule.proofs.Stepping.{after_step, allows}
+use Rattle.pp_rule.proofs.Stepping.{after_step, allows, low_aside}
 use Rattle.pp_rule.proofs.Frames.{SameContent, SameUsed, content_used, held_after, hazards_after, frontier_content, scans_after, Unscanned}
 use Rattle.pp_rule.proofs.Keeping.{hand_scope, base_after, was_unscanned, looks_after}
 
@@ -74,7 +74,7 @@ module _ {E A W : Type 0} (sides : ℕ) (opens : Sizes → List ℕ) (addition :
       let q' : PassState W = with_frontier j n q in
       allows sides opens addition z slots id place kind me (λ _. n) (λ _. n)
       (λ _ m'. (m'.1 ≡ []) × MadeQuietStep kind place n n q' me.0 m'.0) lone (λ m bad. absurd (false≢true (sym bad ∙ does)))
-      (λ m yes. refl) (λ m _. refl)
+      (λ m yes. ((λ _. refl), λ words g b low is. low_aside z g place (omega arith))) (λ m _. refl)
       (λ words g b add pass is sizes fits.
       let e : LoggedStep E A = entry kind place n n [] [] g.order q' in
       let new : List ℕ = set words place n in

@@ -27,7 +27,7 @@ use Rattle.pp_rule.specs.Looks.{SameOwn, Invalidates}
 use Rattle.pp_rule.specs.Laws.{KeptInvalid}
 use Rattle.pp_rule.proofs.Put.{put, put_each, image_at, once_same, in_first, in_later, in_cases}
 use Rattle.pp_rule.proofs.Slots.{same_own}
-use Rattle.pp_rule.proofs.Stepping.{after_step, allows}
+use Rattle.pp_rule.proofs.Stepping.{after_step, allows, cell_aside}
 use Rattle.pp_rule.proofs.Frames.{reads_after, shelves_after}
 use Rattle.pp_rule.proofs.Keeping.{shelf_scope, hand_scope}
 use Rattle.pp_rule.proofs.Chained.{images_set, same_through, leaves_on, with_chains, numbers_on, privates_on, hazards_on, scans_on}
@@ -336,7 +336,14 @@ module _ {E A W : Type 0} (sides : ℕ) (opens : Sizes → List ℕ) (addition :
   invalidates_link invalidates z slots id place k n side c me lone at member below at_place = let q : PassState W = me.0.known in
       let q' : PassState W = with_chain k (invalidated n side c) q in
       allows sides opens addition z slots id place invalidate_step me (λ w. bit_or w 4) (λ w. w)
-      (λ w m'. (m'.1 ≡ []) × Invalidated k c n side w place me.0 m'.0) lone (λ m no. refl) (λ m bad. absurd (false≢true bad))
+      (λ w m'. (m'.1 ≡ []) × Invalidated k c n side w place me.0 m'.0) lone (λ m no. refl)
+      (λ m yes. (
+        (λ bad. absurd (false≢true bad)),
+        λ words g b low is.
+            let own = b.chains.members q.number n c low (subst (λ (v : PassState W). IsIn c v.chains) (sym is) (k, at)) member in
+            cell_aside z g n (2 + side) place own.0 (let two = b.two in omega arith) at_place
+            (λ st. let bad : in_hand q.number c.guard ≡ attached = sym own.1 ∙ st in cc),
+      ))
       (λ m bad. absurd (false≢true bad))
       (λ words g b add pass is sizes fits.
       let w : ℕ = get_or words place 0 in

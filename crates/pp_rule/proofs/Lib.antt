@@ -32,6 +32,7 @@ pub mod Opening
 pub mod Counting
 pub mod Times
 pub mod Alone
+pub mod Undisturbed
 pub mod Reading
 pub mod Learnt
 pub mod Reaching

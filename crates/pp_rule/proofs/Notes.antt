@@ -112,6 +112,7 @@ module _ {E A W : Type 0} (sides : ℕ) (opens : Sizes → List ℕ) (addition :
           made = t.made;
         };
         runs = h.runs;
+        aside = h.aside;
         base = h.base;
         added = h.added;
       }
@@ -151,6 +152,7 @@ module _ {E A W : Type 0} (sides : ℕ) (opens : Sizes → List ℕ) (addition :
             made = t.made;
           };
           runs = subst (λ (words : List ℕ). Runs (opens z) words g.order) (sym again) h.runs;
+          aside = h.aside;
           base = subst (λ (words : List ℕ). Base sides z words g) (sym again) h.base;
           added = subst (λ (words : List ℕ). addition z words g) (sym again) h.added;
         },

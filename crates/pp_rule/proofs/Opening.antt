@@ -1,5 +1,5 @@
 -- The rule holds of a pool as it opens.
-use Rattle.std.proofs.Common.{◌≡◌, ◌≢◌, ◌⊎◌, ℕ, suc, ◌+◌, ◌-◌, ◌<◌, ◌≤◌, Bool, cond, leb, List, [], ◌∷◌, length}
+use Rattle.std.proofs.Common.{◌≡◌, ◌≢◌, ◌⊎◌, ℕ, suc, ◌+◌, ◌-◌, ◌<◌, ◌≤◌, Bool, cond, leb, List, [], ◌∷◌, length, ◌++◌}
 use Rattle.std.proofs.Common.{refl, sym, ap, ◌∙◌, subst}
 use Rattle.std.proofs.Common.{inl, inr, ⊎_elim, arith, le-leb, leb-true, leb-false}
 use Rattle.std.proofs.lemmas.Bool.{lt-leb}
@@ -12,11 +12,13 @@ use Rattle.pp_link.specs.Links.{target}
 use Rattle.pp_link.specs.Places.{IsWithin, IsNumber}
 use Rattle.pp_rule.specs.Lists.{IsIn, Once, OnceBy}
 use Rattle.pp_rule.specs.Orders.{entries_of}
+use Rattle.pp_rule.specs.Steps.{alone}
+use Rattle.pp_rule.specs.Alone.{SeenState}
 use Rattle.pp_rule.specs.Views.{WalkSlot, blank, PrivateRecord, PassState, SeatView, slot, guarding}
 use Rattle.pp_rule.specs.States.{RecordState, attached, in_hand, retired, owned, shelved, IsStateIn, PoolState, Leads}
 use Rattle.pp_rule.specs.Rule.{Reads, number_of, Numbers, Base}
 use Rattle.pp_rule.specs.Ties.{TiedPass, Tied, Ties, Runs, Holds}
-use Rattle.pp_rule.specs.Opening.{opening_words, start_of, share_of, records_from, dealt, first_view, OpensInto}
+use Rattle.pp_rule.specs.Opening.{opening_words, start_of, share_of, records_from, dealt, first_view, OpensInto, IsOpening}
 use Rattle.pp_rule.specs.Laws.{HeadsOpen, LinksOpen, MetAtOpening}
 use Rattle.pp_rule.proofs.Put.{in_nil, only}
 use Rattle.pp_rule.proofs.OpeningWords.{each_replicate, opening_wide, opening_walk, opening_frontier, opening_shelf, opening_head}
@@ -175,6 +177,11 @@ module _ {E A : Type 0} where
   unfolding entries_of
   runs_open words = record { leaves = refl; finds = tt; kept = λ s i. absurd (in_nil s i) }
 
+-- no step stands in an empty order
+pub none_split : {A : Type 0} (before after : List A) (s : A) → [] ≡ before ++ s ∷ after → ⊥
+none_split [] after s is = cc
+none_split (b ∷ before) after s is = cc
+
 module _ {E A W : Type 0} (sides sentinels : ℕ) (head : ℕ → ℕ) (field : ℕ → ℕ → ℕ) (own : W) (z : Sizes) where
   -- what the rule knows at the opening
   abbrev pub opened_pool : PoolState E A W
@@ -273,6 +280,14 @@ module _ {E A W : Type 0} (sides sentinels : ℕ) (head : ℕ → ℕ) (field : 
         made = λ s i. absurd (in_nil s i);
       }
 
+  opening_is : IsOpening sentinels own z opened_pool
+  opening_is = record {
+    of = λ p low. refl;
+    order = refl;
+    sentinels_are = λ n number le. opening_attached sentinels z n le;
+    others_are = λ n number lt. (owner sentinels z z.passes n, opening_owned sentinels z n lt);
+  }
+
   -- The rule holds of the table with its opening words, whose first seat has the view of all passes.
   pub holds_open : (addition : Sizes → List ℕ → PoolState E A W → Type 0) (xs : List Unit) → sides ≤ 2 → IsWithin z
       → sentinels ≤ z.records
@@ -284,11 +299,23 @@ module _ {E A W : Type 0} (sides sentinels : ℕ) (head : ℕ → ℕ) (field : 
         pool = opened_pool;
         ties = ties_open within;
         runs = runs_open (opening_words sentinels head field z);
+        aside = λ before after s is. absurd (none_split before after s is);
         base = base;
-        added = met z opened_pool within most base record {
-          of = λ p low. refl;
-          order = refl;
-          sentinels_are = λ n number le. opening_attached sentinels z n le;
-          others_are = λ n number lt. (owner sentinels z z.passes n, opening_owned sentinels z n lt);
-        };
+        added = met z opened_pool within most base opening_is;
+      }
+
+  -- The view of each pass as it is dealt is of the opening words.
+  pub state_open : (addition : Sizes → List ℕ → PoolState E A W → Type 0) (n : ℕ) → sides ≤ 2 → IsWithin z → sentinels ≤ z.records
+      → HeadsOpen sentinels head → LinksOpen sides sentinels field → MetAtOpening sides addition sentinels head field own
+      → SeenState sides (opening_words sentinels head field) addition (alone [] (dealt sentinels own z n))
+  unfolding entries_of
+  state_open addition n two within most heads links met =
+      let sizes : (dealt sentinels own z n).sizes ≡ z = sizes_of_dealt sentinels own z n in
+      let base : Base sides z (opening_words sentinels head field z) opened_pool = base_open two within most heads links in record {
+        pool = opened_pool;
+        base = subst (λ (y : Sizes). Base sides y (opening_words sentinels head field y) opened_pool) (sym sizes) base;
+        added = subst (λ (y : Sizes). addition y (opening_words sentinels head field y) opened_pool) (sym sizes)
+            (met z opened_pool within most base opening_is);
+        order = refl;
+        known_is = ap (dealt sentinels own z) (number_of_dealt sentinels own z n);
       }

@@ -16,13 +16,13 @@ use Rattle.pp_link.proofs.Stores.{cell_stored}
 use Rattle.pp_rule.specs.Lists.{IsIn}
 use Rattle.pp_rule.specs.Orders.{LoggedStep, write_step}
 use Rattle.pp_rule.specs.Views.{WalkSlot, PrivateRecord, PassState, SeatView, slot}
-use Rattle.pp_rule.specs.States.{owned, IsUsed, PoolState, Held}
+use Rattle.pp_rule.specs.States.{owned, IsUsed, PoolState, Held, attached}
 use Rattle.pp_rule.specs.Rule.{Reads, number_of, Base}
 use Rattle.pp_rule.specs.Ties.{Holds}
 use Rattle.pp_rule.specs.Steps.{entry, IsAlone, MadeQuietStep, with_private, wrote}
 use Rattle.pp_rule.specs.Laws.{KeptAlike}
 use Rattle.pp_rule.proofs.Slots.{same_own}
-use Rattle.pp_rule.proofs.Stepping.{after_step, allows}
+use Rattle.pp_rule.proofs.Stepping.{after_step, allows, cell_aside}
 use Rattle.pp_rule.proofs.Frames.{SameUsed, held_after, reads_after, links_after, numbers_after, privates_after, hazards_after, chains_after}
 use Rattle.pp_rule.proofs.Frames.{shelves_after, Unscanned, scans_after}
 use Rattle.pp_rule.proofs.Keeping.{shelf_scope, hand_scope, was_unscanned, looks_after}
@@ -124,7 +124,13 @@ module _ {E A W : Type 0} (sides : ℕ) (opens : Sizes → List ℕ) (addition :
       let q' : PassState W = with_private k (wrote f x d) q in
       allows sides opens addition z slots id place write_step me (λ _. x) (λ _. x)
       (λ _ m'. (m'.1 ≡ []) × MadeQuietStep write_step place x x q' me.0 m'.0) lone (λ m bad. absurd (false≢true (sym bad)))
-      (λ m yes. refl) (λ m _. refl)
+      (λ m yes. (
+        (λ _. refl),
+        λ words g b low is.
+            let own = b.numbers.owned_to q.number d low (subst (λ (v : PassState W). IsIn d v.owned) (sym is) (k, at)) in
+            cell_aside z g d.number f place own.0 four at_place
+            (λ st. let bad : owned q.number ≡ attached = sym own.1 ∙ st in cc),
+      )) (λ m _. refl)
       (λ words g b add pass is sizes fits.
       let e : LoggedStep E A = entry write_step place x x [] [] g.order q' in
       let new : List ℕ = set words place x in

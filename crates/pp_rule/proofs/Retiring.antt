@@ -23,7 +23,7 @@ use Rattle.pp_rule.specs.Looks.{SameOwn, LooksSame}
 use Rattle.pp_rule.specs.Laws.{KeptAlike}
 use Rattle.pp_rule.proofs.Put.{put, put_each, in_nil, in_left, in_right, in_either}
 use Rattle.pp_rule.proofs.Slots.{same_own}
-use Rattle.pp_rule.proofs.Stepping.{after_step, allows}
+use Rattle.pp_rule.proofs.Stepping.{after_step, allows, low_aside}
 use Rattle.pp_rule.proofs.Frames.{SameUsed, SameContent, content_used, frontier_content}
 use Rattle.pp_rule.proofs.Frames.{held_after, reads_after, shelves_after, hazards_after}
 use Rattle.pp_rule.proofs.Frames.{Unscanned, scans_after}
@@ -348,7 +348,12 @@ module _ {E A W : Type 0} (sides : ℕ) (opens : Sizes → List ℕ) (addition :
       let q' : PassState W = retiring c q in
       allows sides opens addition z slots id place retire_step me (λ _. 0) (λ _. 0)
       (λ _ m'. (m'.1 ≡ []) × MadeQuietStep retire_step place 0 0 q' me.0 m'.0) lone (λ m bad. absurd (false≢true (sym bad)))
-      (λ m yes. refl) (λ m _. refl)
+      (λ m yes. (
+        (λ _. refl),
+        λ words g b low is.
+            let four : c.guard < 4 = b.chains.guard q.number c low (subst (λ (v : PassState W). IsIn c v.chains) (sym is) (0, at)) in
+            low_aside z g place (omega arith),
+      )) (λ m _. refl)
       (λ words g b add pass is sizes fits.
       let e : LoggedStep E A = entry retire_step place 0 0 [] [] g.order q' in
       let status : ℕ → RecordState = retired_status sides z words g q c b pass is at spent in

@@ -206,6 +206,7 @@ module _ {E A W : Type 0} (sides : ℕ) (opens : Sizes → List ℕ) (addition :
           made = t.made;
         };
         runs = h.runs;
+        aside = h.aside;
         base = h.base;
         added = h.added;
       }
@@ -322,6 +323,7 @@ module _ {E A W : Type 0} (sides : ℕ) (opens : Sizes → List ℕ) (addition :
           made = t.made;
         };
         runs = h.runs;
+        aside = h.aside;
         base = h.base;
         added = h.added;
       }
@@ -368,6 +370,7 @@ module _ {E A W : Type 0} (sides : ℕ) (opens : Sizes → List ℕ) (addition :
           made = t.made;
         };
         runs = h.runs;
+        aside = h.aside;
         base = h.base;
         added = h.added;
       }

@@ -1,5 +1,5 @@
 -- The exchange of 0 for a free number of a pass at a shelf word: the number is on the shelf.
-use Rattle.std.proofs.Common.{◌≡◌, ◌≢◌, ◌⊎◌, ℕ, ◌*◌, ◌<◌, ◌≤◌, Bool, true, false, cond, eqb, List, [], ◌∷◌, ◌++◌, get_or, set}
+use Rattle.std.proofs.Common.{◌≡◌, ◌≢◌, ◌⊎◌, ℕ, ◌*◌, ◌<◌, ◌≤◌, Bool, true, false, cond, eqb, List, [], ◌∷◌, ◌++◌, get_or, set, arith}
 use Rattle.std.proofs.Common.{refl, sym, ap, ◌∙◌, subst, inl, inr, ⊎_elim, eq-eqb, ne_eqb, arith}
 use Rattle.std.proofs.Math.Bool.{false≢true}
 use Rattle.std.proofs.Math.Decide.{ℕ_discrete}
@@ -23,7 +23,7 @@ use Rattle.pp_rule.specs.Looks.{LooksSame}
 use Rattle.pp_rule.specs.Laws.{KeptAlike}
 use Rattle.pp_rule.specs.Changes.{SameButOwned}
 use Rattle.pp_rule.proofs.Put.{put, put_here, put_else}
-use Rattle.pp_rule.proofs.Stepping.{after_step, Plays, allows_by}
+use Rattle.pp_rule.proofs.Stepping.{after_step, Plays, allows_by, low_aside}
 use Rattle.pp_rule.proofs.Frames.{reads_after, privates_after}
 use Rattle.pp_rule.proofs.Keeping.{idle_keeps, shelf_scope}
 use Rattle.pp_rule.proofs.Publishing.{removed_in, in_removed, once_removed}
@@ -155,7 +155,10 @@ module _ {E A W : Type 0} (sides : ℕ) (opens : Sizes → List ℕ) (addition :
       let kind : Bool → ℕ = λ hit. cond hit shelve_step missed_step in
       allows_by sides opens addition z slots id place (λ n. kind (eqb n 0)) me
       (λ n. either (eqb n 0) d.number n) (λ n. n) then lone (λ m no. refl)
-      (λ m bad. absurd (false≢true (sym (stores_none (eqb m 0)) ∙ bad))) (λ m. missed_keeps (eqb m 0) m d.number)
+      (λ m yes. (
+        (λ bad. absurd (false≢true (sym (stores_none (eqb m 0)) ∙ bad))),
+        λ words g b some is. low_aside z g place (omega arith),
+      )) (λ m. missed_keeps (eqb m 0) m d.number)
       (λ words g b add pass is sizes fits. let n : ℕ = get_or words place 0 in
       dite (ℕ_discrete n 0)
       (λ e. subst (λ (hit : Bool). Plays sides opens addition (kind hit) place n (either hit d.number n) z words g me.0 (then n))

@@ -1,17 +1,22 @@
 -- A step of a seat that is alone with its pass: what it owes of the rule, and what follows for the views and the order.
 use Rattle.std.proofs.Common.{◌≡◌, ◌≢◌, ℕ, ◌<◌, true, false, List, [], ◌∷◌, ◌++◌, get_or, set, refl, sym, ap}
-use Rattle.std.proofs.Common.{◌∙◌, subst, ⊎_elim}
+use Rattle.std.proofs.Common.{◌∙◌, subst, ⊎_elim, ◌⊎◌, inl, inr, ◌+◌, ◌*◌, ◌≤◌, Bool, length, length-append, arith}
+use Rattle.std.specs.Prelude.{nat_eq, ◌||◌}
 use mathlib.Core.Option.{some}
 use lib.ListN.{get_elem?}
 use Rattle.atomic_table.specs.Table.{Me, keeps, Allows}
 use Rattle.atomic_table.proofs.Lists.{at_set, set_here}
 use Rattle.pp_link.specs.declared.layout.Sizes.{Sizes}
+use Rattle.pp_link.specs.Places.{IsNumber, head_place, cell_place}
 use Rattle.pp_rule.specs.Lists.{IsIn}
-use Rattle.pp_rule.specs.Orders.{LoggedStep, stores, only_loads, KeepsWord}
+use Rattle.pp_rule.specs.Orders.{LoggedStep, stores, only_loads, KeepsWord, goes_aside, replayed, entries_of}
 use Rattle.pp_rule.specs.Views.{PassState, SeatView, all_of}
-use Rattle.pp_rule.specs.States.{RecordState, PoolState}
+use Rattle.pp_rule.specs.States.{RecordState, attached, PoolState}
 use Rattle.pp_rule.specs.Rule.{Base}
-use Rattle.pp_rule.specs.Ties.{TiedPass, Tied, Ties, Runs, Holds}
+use Rattle.pp_rule.specs.Ties.{TiedPass, Tied, Ties, Runs, Holds, GoAside}
+use Rattle.pp_rule.specs.Reached.{Reached, IsAside}
+use Rattle.pp_rule.proofs.Reaching.{reached_attached}
+use Rattle.pp_rule.specs.Orders.{invalidate_step, shelve_step, unshelve_step}
 use Rattle.pp_rule.specs.Steps.{entry, alone, IsAlone, MadeStep}
 use Rattle.pp_rule.proofs.Put.{put, put_here, put_else, in_nil, in_either, in_one, only, at_below}
 use Rattle.pp_rule.proofs.Histories.{begins_self, begins_more, made_else, replayed_more, run_more}
@@ -100,7 +105,80 @@ module _ {E A W : Type 0} where
             (in_either m order (s ∷ []) i);
       }
 
+-- a step that stores goes aside
+stores_aside : (kind : ℕ) → stores kind ≡ true → goes_aside kind ≡ true
+stores_aside kind is = ap (λ (b : Bool). b || nat_eq kind invalidate_step || nat_eq kind shelve_step || nat_eq kind unshelve_step) is
+
+-- the place is none of a head or of an attached record
+pub record StaysAside {E A W : Type 0} (z : Sizes) (g : PoolState E A W) (place : ℕ) : Type 0 where
+  pub heads : (h : ℕ) → h < z.heads → place ≢ head_place z h
+  pub cells : (n f : ℕ) → IsNumber z n → f < 5 → place ≡ cell_place z n f → g.status n ≡ attached → ⊥
+
+-- no hazard word and no shelf word is
+pub low_aside : {E A W : Type 0} (z : Sizes) (g : PoolState E A W) (place : ℕ) → place ≤ 17 * z.passes → StaysAside z g place
+low_aside z g place low = record { heads = λ h lt at. omega arith; cells = λ n f number lt at st. omega arith }
+
+-- nor is a field of a record in another state
+pub cell_aside : {E A W : Type 0} (z : Sizes) (g : PoolState E A W) (m f place : ℕ) → IsNumber z m → f < 5 → place ≡ cell_place z m f
+    → (g.status m ≡ attached → ⊥) → StaysAside z g place
+cell_aside z g m f place is low at other = record {
+  heads = λ h lt e. omega arith;
+  cells = λ n i number lt e st. let same : n ≡ m = (let one = number.0 in let first = is.0 in omega arith) in
+      other (subst (λ (k : ℕ). g.status k ≡ attached) same st);
+}
+
+module _ {E A : Type 0} where
+  -- a place in an order with one step more is the last one, or one before
+  snoc_split : (xs before after : List (LoggedStep E A)) (e s : LoggedStep E A) → xs ++ e ∷ [] ≡ before ++ s ∷ after
+      → ((before ≡ xs) × (s ≡ e)) ⊎ ((rest : List (LoggedStep E A)) × (xs ≡ before ++ s ∷ rest))
+  snoc_split [] [] after e s is = inl (refl, sym (first_same e s [] after is))
+    where
+      first_same : (x y : LoggedStep E A) (xs ys : List (LoggedStep E A)) → x ∷ xs ≡ y ∷ ys → x ≡ y
+      first_same x y xs ys e = cc
+  snoc_split [] (b ∷ before) after e s is = absurd (let long : length (e ∷ []) ≡ length (b ∷ before ++ s ∷ after) = ap (λ l. length l) is in
+      let more = length-append before (s ∷ after) in omega arith)
+  snoc_split (x ∷ xs) [] after e s is = inr (xs, (let first : x ≡ s = cc in ap (λ (y : LoggedStep E A). y ∷ xs) first))
+  snoc_split (x ∷ xs) (b ∷ before) after e s is = let first : x ≡ b = cc in let rest : xs ++ e ∷ [] ≡ before ++ s ∷ after = cc in ⊎_elim
+      (λ (c : (before ≡ xs) × (s ≡ e)). inl (
+        (ap (λ (l : List (LoggedStep E A)). b ∷ l) c.0
+            ∙ ap (λ (y : LoggedStep E A). y ∷ xs) (sym first)),
+        c.1,
+      ))
+      (λ (c : (rest : List (LoggedStep E A)) × (xs ≡ before ++ s ∷ rest)). inr (
+        c.0,
+        (ap (λ (y : LoggedStep E A). y ∷ xs) first
+            ∙ ap (λ (l : List (LoggedStep E A)). b ∷ l) c.1),
+      ))
+      (snoc_split xs before after e s rest)
+
+  -- one step more
+  pub aside_after : (sides : ℕ) (z : Sizes) (opens : List ℕ) (order : List (LoggedStep E A)) (e : LoggedStep E A) → GoAside sides z opens order
+      → (goes_aside e.entry.step.kind ≡ true → IsAside sides z (replayed opens (entries_of order)) e.entry.step.place)
+      → GoAside sides z opens (order ++ e ∷ [])
+  aside_after sides z opens order e was last before after s is kind = ⊎_elim
+      (λ (c : (before ≡ order) × (s ≡ e)). subst (λ (o : List (LoggedStep E A)). IsAside sides z (replayed opens (entries_of o))
+      s.entry.step.place) (sym c.0)
+      (subst (λ (t : LoggedStep E A). goes_aside t.entry.step.kind ≡ true → IsAside sides z (replayed opens (entries_of order))
+      t.entry.step.place) (sym c.1) last kind))
+      (λ (c : (rest : List (LoggedStep E A)) × (order ≡ before ++ s ∷ rest)). was before c.0 s c.1 kind)
+      (snoc_split order before after e s is)
+
+-- what can be reached is attached
+pub aside_reached : {E A W : Type 0} (sides : ℕ) (z : Sizes) (words : List ℕ) (g : PoolState E A W) → Base sides z words g
+    → {opens : List ℕ} → Runs opens words g.order
+    → (place : ℕ) → StaysAside z g place → IsAside sides z (replayed opens (entries_of g.order)) place
+aside_reached sides z words g b runs place a = record {
+  heads = a.heads;
+  cells = λ n f number lt at reached. a.cells n f number lt at
+      (reached_attached sides z words g b n number (subst (λ (ws : List ℕ). Reached sides z ws n) runs.leaves reached));
+}
+
 module _ {E A W : Type 0} (sides : ℕ) (opens : Sizes → List ℕ) (addition : Sizes → List ℕ → PoolState E A W → Type 0) where
+  -- a step of this pass at this place changes no word of a head or of an attached record
+  abbrev pub StepsAside : Sizes → PassState W → ℕ → Type 0
+  StepsAside z q place = (words : List ℕ) (g : PoolState E A W) → Base sides z words g → q.number < z.passes
+      → g.of q.number ≡ q → StaysAside z g place
+
   -- What a kind of step owes: from the facts before it the facts after it, with what is now known of its pass, the states of
   -- the numbers, the changes that took effect and the calls that were placed.
   pub record KeepsRule (kind place word left : ℕ) (z : Sizes) (words : List ℕ) (g : PoolState E A W) (old known : PassState W)
@@ -125,7 +203,8 @@ module _ {E A W : Type 0} (sides : ℕ) (opens : Sizes → List ℕ) (addition :
   -- A step keeps the rule where it does so in each state that meets it. The kind may depend on the word that is found.
   pub allows_by : (z : Sizes) (slots id place : ℕ) (kind : ℕ → ℕ) (me : Me Unit (SeatView E A W)) (change noted : ℕ → ℕ)
       (then : ℕ → Me Unit (SeatView E A W) → Type 0) → IsAlone me
-      → ((n : ℕ) → stores (kind n) ≡ false → noted n ≡ n) → ((n : ℕ) → stores (kind n) ≡ true → noted n ≡ change n)
+      → ((n : ℕ) → stores (kind n) ≡ false → noted n ≡ n) → ((n : ℕ) → goes_aside (kind n) ≡ true
+      → (stores (kind n) ≡ true → noted n ≡ change n) × StepsAside z me.0.known place)
       → ((n : ℕ) → only_loads (kind n) ≡ true → change n ≡ noted n)
       → ((words : List ℕ) (g : PoolState E A W) → Base sides z words g → addition z words g → me.0.known.number < z.passes
       → g.of me.0.known.number ≡ me.0.known → me.0.known.sizes ≡ z → get_or words place 0 < 18446744073709551616
@@ -150,7 +229,9 @@ module _ {E A W : Type 0} (sides : ℕ) (opens : Sizes → List ℕ) (addition :
           pool = after_step g did.known did.status e;
           ties = ties_after z s.views g id v did.known did.status e h.ties at lone.1 did.keeps_rule.number did.keeps_rule.sizes refl;
           runs = runs_after (opens z) s.words g.order did.known (kind n) place (noted n) (change n) did.changes did.placed h.runs
-              (found n) (stored n) (kept n);
+              (found n) (λ is. (stored n (stores_aside (kind n) is)).0 is) (kept n);
+          aside = aside_after sides z (opens z) g.order e h.aside
+              (λ is. aside_reached sides z s.words g h.base h.runs (e.entry.step.place) ((stored n is).1 s.words g h.base mine.number mine.is));
           base = did.keeps_rule.base;
           added = did.keeps_rule.added;
         },
@@ -160,7 +241,8 @@ module _ {E A W : Type 0} (sides : ℕ) (opens : Sizes → List ℕ) (addition :
   -- the same for a step of one kind
   pub allows : (z : Sizes) (slots id place kind : ℕ) (me : Me Unit (SeatView E A W)) (change noted : ℕ → ℕ)
       (then : ℕ → Me Unit (SeatView E A W) → Type 0) → IsAlone me
-      → ((n : ℕ) → stores kind ≡ false → noted n ≡ n) → ((n : ℕ) → stores kind ≡ true → noted n ≡ change n)
+      → ((n : ℕ) → stores kind ≡ false → noted n ≡ n) → ((n : ℕ) → goes_aside kind ≡ true
+      → (stores kind ≡ true → noted n ≡ change n) × StepsAside z me.0.known place)
       → ((n : ℕ) → only_loads kind ≡ true → change n ≡ noted n)
       → ((words : List ℕ) (g : PoolState E A W) → Base sides z words g → addition z words g → me.0.known.number < z.passes
       → g.of me.0.known.number ≡ me.0.known → me.0.known.sizes ≡ z → get_or words place 0 < 18446744073709551616

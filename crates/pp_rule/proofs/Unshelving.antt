@@ -1,5 +1,5 @@
 -- The swap of 0 into a shelf word: the number that stood there is free with the pass.
-use Rattle.std.proofs.Common.{◌≡◌, ◌≢◌, ◌⊎◌, ℕ, ◌*◌, ◌<◌, List, [], ◌∷◌, ◌++◌, get_or, set, refl}
+use Rattle.std.proofs.Common.{◌≡◌, ◌≢◌, ◌⊎◌, ℕ, ◌*◌, ◌<◌, List, [], ◌∷◌, ◌++◌, get_or, set, refl, arith}
 use Rattle.std.proofs.Common.{sym, ap, ◌∙◌, subst, inl, inr, ⊎_elim}
 use Rattle.std.proofs.Math.Bool.{false≢true}
 use Rattle.std.proofs.Math.Decide.{ℕ_discrete}
@@ -21,7 +21,7 @@ use Rattle.pp_rule.specs.Laws.{KeptAlike}
 use Rattle.pp_rule.specs.Changes.{SameButOwned}
 use Rattle.pp_rule.proofs.Put.{put, put_here, put_else, in_nil, in_last, in_left, in_either, in_one}
 use Rattle.pp_rule.proofs.Without.{once_append, once_cons}
-use Rattle.pp_rule.proofs.Stepping.{after_step, KeepsRule, allows}
+use Rattle.pp_rule.proofs.Stepping.{after_step, KeepsRule, allows, low_aside}
 use Rattle.pp_rule.proofs.Frames.{reads_after, privates_after}
 use Rattle.pp_rule.proofs.Keeping.{idle_keeps, shelf_scope}
 use Rattle.pp_rule.proofs.Freeing.{read_record}
@@ -137,7 +137,8 @@ module _ {E A W : Type 0} (sides : ℕ) (opens : Sizes → List ℕ) (addition :
   unfolding shelf_word
   unshelves_any alike z slots id place j me lone low at_place = let q : PassState W = me.0.known in
       allows sides opens addition z slots id place unshelve_step me (λ _. 0) (λ n. n)
-      (λ n m'. (m'.1 ≡ []) × ClearedShelf n place me.0 m'.0) lone (λ m no. refl) (λ m bad. absurd (false≢true bad))
+      (λ n m'. (m'.1 ≡ []) × ClearedShelf n place me.0 m'.0) lone (λ m no. refl)
+      (λ m yes. ((λ bad. absurd (false≢true bad)), λ words g b some is. low_aside z g place (omega arith)))
       (λ m bad. absurd (false≢true bad))
       (λ words g b add pass is sizes fits. let n : ℕ = get_or words place 0 in
       let word_is : shelf_word words z j ≡ n = ap (λ (i : ℕ). get_or words i 0) (sym at_place) in

@@ -17,7 +17,7 @@ use Rattle.pp_rule.specs.Steps.{entry, IsAlone, MadeQuietStep, with_walk, cleari
 use Rattle.pp_rule.specs.Looks.{HoldsOn, Clears}
 use Rattle.pp_rule.specs.Laws.{KeptAlike, KeptCleared}
 use Rattle.pp_rule.proofs.Slots.{WalkSet, each_slot, five_after, holds_on_free, clears_after}
-use Rattle.pp_rule.proofs.Stepping.{after_step, allows}
+use Rattle.pp_rule.proofs.Stepping.{after_step, allows, low_aside}
 use Rattle.pp_rule.proofs.Frames.{SameContent, content_used, same_content, walk_content, held_after, hazards_after, Unscanned, scans_after}
 use Rattle.pp_rule.proofs.Keeping.{hand_scope, base_after, was_unscanned, looks_after, clears_looks, idle_keeps}
 
@@ -95,7 +95,7 @@ module _ {E A W : Type 0} (sides : ℕ) (opens : Sizes → List ℕ) (addition :
       let q' : PassState W = with_walk i (naming n) q in
       allows sides opens addition z slots id place announce_step me (λ _. n) (λ _. n)
       (λ _ m'. (m'.1 ≡ []) × MadeQuietStep announce_step place n n q' me.0 m'.0) lone (λ m bad. absurd (false≢true (sym bad)))
-      (λ m yes. refl) (λ m _. refl)
+      (λ m yes. ((λ _. refl), λ words g b low is. low_aside z g place (omega arith))) (λ m _. refl)
       (λ words g b add pass is sizes fits.
       let e : LoggedStep E A = entry announce_step place n n [] [] g.order q' in
       let new : List ℕ = set words place n in
@@ -133,7 +133,7 @@ module _ {E A W : Type 0} (sides : ℕ) (opens : Sizes → List ℕ) (addition :
       let q' : PassState W = clearing forget i q in
       allows sides opens addition z slots id place clear_step me (λ _. 0) (λ _. 0)
       (λ _ m'. (m'.1 ≡ []) × MadeQuietStep clear_step place 0 0 q' me.0 m'.0) lone (λ m bad. absurd (false≢true (sym bad)))
-      (λ m yes. refl) (λ m _. refl)
+      (λ m yes. ((λ _. refl), λ words g b low is. low_aside z g place (omega arith))) (λ m _. refl)
       (λ words g b add pass is sizes fits.
       let e : LoggedStep E A = entry clear_step place 0 0 [] [] g.order q' in
       let new : List ℕ = set words place 0 in

@@ -87,13 +87,13 @@ pub record FoundTaken (z : MapSizes) (steps : List Step) : Type 0 where
   pub each : (j : ℕ) → j < 8 * z.passes
       → (s : Step) × (IsIn s steps × (s.kind ≡ missed_step) × (s.place ≡ shelf_place (pool_sizes z) j) × (s.word ≡ 0 → ⊥))
 
--- so many records are attached in these words
+-- so many records are attached in these words; 0 is the number of none
 pub record CountsAttached (IsAttached : ℕ → Type 0) (count : ℕ) : Type 0 where
   pub numbers : List ℕ
   pub count_is : length numbers ≡ count
   pub once : Once numbers
-  pub each : (n : ℕ) → IsIn n numbers → IsAttached n
-  pub all : (n : ℕ) → IsAttached n → IsIn n numbers
+  pub each : (n : ℕ) → IsIn n numbers → (1 ≤ n) × IsAttached n
+  pub all : (n : ℕ) → 1 ≤ n → IsAttached n → IsIn n numbers
 
 -- At some time after so many steps of its own the pass has seen that the record wasn't attached.
 pub record WasDetached {E : Type 0} (IsAttached : List ℕ → ℕ → Type 0) (opens : List ℕ) (n own pass : ℕ)

@@ -1,5 +1,5 @@
 -- The order of all steps.
-use Rattle.std.specs.Prelude.{◌≡◌, ℕ, Bool, true, cond, nat_eq, ◌||◌, List, [], ◌∷◌, ◌++◌, map}
+use Rattle.std.specs.Prelude.{◌≡◌, ℕ, Bool, true, false, cond, nat_eq, ◌||◌, List, [], ◌∷◌, ◌++◌, map}
 pub use Rattle.pp_model.specs.declared.steps.Step.{Step}
 pub use Rattle.pp_model.specs.declared.steps.OrderEntry.{OrderEntry}
 pub use Rattle.pp_model.specs.Pass.{replayed, changes_of, steps_of, FindsWord, IsExecution}
@@ -75,11 +75,25 @@ abbrev pub stores : ℕ → Bool
 stores kind = nat_eq kind write_step || nat_eq kind announce_step || nat_eq kind clear_step || nat_eq kind guard_step
     || nat_eq kind unguard_step || nat_eq kind retire_step
 
+-- The kinds of step that change no word of a head or of a record that can be reached: stores to hazard words and to private records,
+-- INVALID in a link of a chain in hand, and the steps at shelf words.
+abbrev pub goes_aside : ℕ → Bool
+goes_aside kind = stores kind || nat_eq kind invalidate_step || nat_eq kind shelve_step || nat_eq kind unshelve_step
+
 -- The kinds of step that leave the word that they found: loads, and exchanges that found another word than they expected. 19
 -- and 24 are loads of the structures, at which a call that changes nothing may be placed.
 abbrev pub only_loads : ℕ → Bool
 only_loads kind = nat_eq kind load_step || nat_eq kind confirm_step || nat_eq kind read_step || nat_eq kind missed_step
     || nat_eq kind scan_frontier_step || nat_eq kind scan_walk_step || nat_eq kind 19 || nat_eq kind 24
+
+-- The kinds of step by which no link of a head or of a record that can be reached changes.
+abbrev pub is_calm : ℕ → Bool
+is_calm kind = only_loads kind || goes_aside kind
+
+-- Those of a walk: it loads links, keys and values, announces, and clears.
+abbrev pub only_walks : ℕ → Bool
+only_walks kind = nat_eq kind load_step || (nat_eq kind confirm_step || (nat_eq kind read_step || (nat_eq kind 19
+    || (nat_eq kind announce_step || (nat_eq kind clear_step || false)))))
 
 module _ {E A : Type 0} where
   abbrev pub entry_of : LoggedStep E A → OrderEntry E

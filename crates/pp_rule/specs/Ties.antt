@@ -1,15 +1,16 @@
 -- The rule of the table: the views are tied to one order of all steps and to what is known of each pass, the words are what
 -- that order leaves, and what is true of every pool and of this shape holds.
-use Rattle.std.specs.Prelude.{◌≡◌, ℕ, ◌<◌, List}
+use Rattle.std.specs.Prelude.{◌≡◌, ℕ, ◌<◌, true, List, ◌∷◌, ◌++◌}
 use Rattle.pp_link.specs.declared.layout.Sizes.{Sizes}
 use Rattle.atomic_table.specs.Table.{State}
 use lib.ListN.{get_elem?}
 use mathlib.Core.Option.{some}
 use Rattle.pp_rule.specs.Lists.{IsIn, OnceBy, BeginsWith}
-use Rattle.pp_rule.specs.Orders.{LoggedStep, entries_of, made_by, replayed, IsExecution, stores, KeepsWord}
+use Rattle.pp_rule.specs.Orders.{LoggedStep, entries_of, made_by, replayed, IsExecution, stores, KeepsWord, goes_aside}
 use Rattle.pp_rule.specs.Views.{PassState, JoinedOrder, SeatView, all_of}
 use Rattle.pp_rule.specs.States.{PoolState}
 use Rattle.pp_rule.specs.Rule.{Base}
+use Rattle.pp_rule.specs.Reached.{IsAside}
 
 module _ {W : Type 0} where
   abbrev pub pass_number : PassState W → ℕ
@@ -57,6 +58,12 @@ module _ {E A : Type 0} where
     pub finds : IsExecution stores opens 0 (entries_of order)
     pub kept : (s : LoggedStep E A) → IsIn s order → KeepsWord s
 
+module _ {E A : Type 0} where
+  -- each step of these kinds went aside of the words that stood there
+  abbrev pub GoAside : ℕ → Sizes → List ℕ → List (LoggedStep E A) → Type 0
+  GoAside sides z opens order = (before after : List (LoggedStep E A)) (s : LoggedStep E A) → order ≡ before ++ s ∷ after
+      → goes_aside s.entry.step.kind ≡ true → IsAside sides z (replayed opens (entries_of before)) s.entry.step.place
+
 module _ {E A W : Type 0} where
   -- The whole rule, with the addition of a shape whose records have so many links.
   pub record Holds (sides : ℕ) (opens : Sizes → List ℕ) (addition : Sizes → List ℕ → PoolState E A W → Type 0) (z : Sizes)
@@ -64,5 +71,7 @@ module _ {E A W : Type 0} where
     pub pool : PoolState E A W
     pub ties : Ties z s.views pool
     pub runs : Runs (opens z) s.words pool.order
+    -- steps of these kinds changed no word of a head or of a record that could be reached then
+    pub aside : GoAside sides z (opens z) pool.order
     pub base : Base sides z s.words pool
     pub added : addition z s.words pool

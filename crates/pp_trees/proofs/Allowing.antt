@@ -16,7 +16,7 @@ use Rattle.pp_model.specs.declared.Call.TheVariants.{Insert}
 use Rattle.pp_model.specs.declared.Reply.{Reply}
 use Rattle.pp_model.specs.declared.Reply.TheVariants.{Added, Took}
 use Rattle.pp_model.specs.History.{Stands}
-use Rattle.pp_rule.specs.Orders.{log_of, placed_by, stores, missed_step, only_loads}
+use Rattle.pp_rule.specs.Orders.{log_of, placed_by, goes_aside, missed_step, only_loads}
 use Rattle.pp_rule.specs.Rule.{Base}
 use Rattle.pp_rule.specs.Views.{slot, value_of}
 use Rattle.pp_rule.specs.States.{IsSmall}
@@ -51,8 +51,8 @@ stands_held z words g q tr pass is at = subst (λ (v : TreePass). v.own.at < 5
 -- An exchange of a tree's own kind at an edge of the record where the call stands: it is made where the first word is found,
 -- and else
 -- nothing changes.
-module _ (opens : Sizes → List ℕ) (z : Sizes) (kind : ℕ) (silent : stores kind ≡ false) (writes : only_loads kind ≡ false) where
-  stores_none : (hit : Bool) → stores (cond hit kind missed_step) ≡ false
+module _ (opens : Sizes → List ℕ) (z : Sizes) (kind : ℕ) (silent : goes_aside kind ≡ false) (writes : only_loads kind ≡ false) where
+  stores_none : (hit : Bool) → goes_aside (cond hit kind missed_step) ≡ false
   stores_none true = silent
   stores_none false = refl
 

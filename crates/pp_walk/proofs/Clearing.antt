@@ -18,7 +18,7 @@ use Rattle.pp_base.proofs.Named.{plain_one}
 use Rattle.pp_lists.specs.declared.own.ListOwn.{ListOwn}
 use Rattle.pp_lists.specs.Lists.{ListPass, list_forget}
 use Rattle.pp_lists.specs.Turns.{ListView}
-use Rattle.pp_walk.specs.Words.{IsEmpty, Cleared, is_kept, SameCallOf, SameRest}
+use Rattle.pp_walk.specs.Words.{IsEmpty, Cleared, is_kept, SameCallOf, SameRest, HoldsNoMore}
 use Rattle.pp_walk.specs.Trod.{Quiet}
 use Rattle.pp_walk.proofs.Counting.{quiet_idle, quiet_none, quiet_both, same_self, same_through, rest_self, rest_through}
 
@@ -238,3 +238,11 @@ clears_one i a b c p s s' r five lt x y u same made t = record {
       (clear_known i p (view s') (view r) made) t.cleared;
   idles = quiet_both 0 0 0 refl (view s) (view s') (view r) t.idles (clear_quiet i p (view s') (view r) made);
 }
+
+-- what is held after it was held before
+pub cleared_names : (a b c : ℕ) (q q' : ListPass) → Cleared a b c q q' → HoldsNoMore q q'
+cleared_names a b c q q' d j low on = by (is_kept a b c j) refl
+  where
+    by : (k : Bool) → is_kept a b c j ≡ k → ((slot q j).held ≡ true) × ((slot q' j).named ≡ (slot q j).named)
+    by true is = let same = d.kept j is in (ap (λ (s : WalkSlot). s.held) (sym same) ∙ on, ap (λ (s : WalkSlot). s.named) same)
+    by false is = absurd (true≢false (sym on ∙ (d.empty j low is).free))

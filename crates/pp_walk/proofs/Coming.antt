@@ -1,5 +1,7 @@
 -- A try to hold the next record, over its steps.
-use Rattle.std.proofs.Common.{◌≡◌, ◌≢◌, inl, inr, ℕ, ◌+◌, ◌<◌, Bool, true, false, cond, nat_eq, List, [], ◌∷◌}
+use Rattle.std.proofs.Common.{◌≡◌, ◌≢◌, inl, inr, ℕ, ◌+◌, ◌<◌, Bool, true, false, cond, nat_eq, List, [], ◌∷◌, true≢false}
+use mathlib.Core.Logic.{dite}
+use Rattle.std.proofs.Math.Decide.{ℕ_discrete}
 use Rattle.std.proofs.Common.{length, set, refl, sym, ap, ◌∙◌, subst, arith, ne_eqb}
 use Rattle.pp_link.specs.declared.layout.Sizes.{Sizes}
 use Rattle.pp_link.specs.Links.{target, invalid_bit}
@@ -11,6 +13,7 @@ use Rattle.pp_rule.specs.declared.views.Halves.{Halves}
 use Rattle.pp_rule.specs.Orders.{announce_step, clear_step, confirm_step}
 use Rattle.pp_rule.specs.Views.{slot, naming}
 use Rattle.pp_rule.specs.Steps.{MadeQuietStep, with_walk, clearing, holding}
+use Rattle.pp_rule.proofs.Put.{in_first, in_right}
 use Rattle.pp_rule.proofs.Slots.{slot_here, slot_else, five_after}
 use Rattle.pp_rule.proofs.Made.{known_after}
 use Rattle.pp_base.specs.declared.source.Place.{Place}
@@ -29,7 +32,8 @@ use Rattle.pp_walk.specs.Words.{IsEmpty, Cleared, SameCallOf, SameRest}
 use Rattle.pp_walk.specs.Roles.{Walking, StandsOn, lower_of}
 use Rattle.pp_walk.specs.Trod.{Quiet}
 use Rattle.pp_walk.specs.Parts.{HoldsNext, LosesNext, word_in}
-use Rattle.pp_walk.proofs.Counting.{writes_one, writes_none, rest_quiet, same_through, rest_through, rest_of}
+use Rattle.pp_walk.proofs.Clearing.{cleared_names}
+use Rattle.pp_walk.proofs.Counting.{writes_one, writes_none, rest_idle, same_through, rest_through, rest_of}
 use Rattle.pp_walk.proofs.Standing.{Standing, standing_of, standing_on, walking_on, stands_at, readable, holds_next}
 
 -- The number of the next record is announced in the walk word w.
@@ -167,7 +171,7 @@ module _ (z : Sizes) (v v1 : ListView) (walk : Walk) (w n p : ℕ) (five : lengt
       rest = rest_through v.known v2.known u.known (rest_through v.known v1.known v2.known rest_1
           (subst (λ (q : ListPass). SameRest v1.known q) (sym known_2)
           record { number = refl; sizes = refl; owned = refl; retired_are = refl; frontier = refl; chains = refl; scan = refl })) c.rest;
-      turn = rest_quiet 0 0 0 refl (source_place z v.known walk.at Left) first v v2 u record {
+      turn = rest_idle z 0 (source_place z v.known walk.at Left) first v v2 u record {
         steps = announces p (target first) ∷ confirms (source_place z v.known walk.at Left) first ∷ [];
         did = (
           v1,
@@ -187,7 +191,14 @@ module _ (z : Sizes) (v v1 : ListView) (walk : Walk) (w n p : ℕ) (five : lengt
         loses = λ sizes earlier. confirmed_finds sizes earlier (source_place z v.known walk.at Left) first (target first) p valid;
         writes = writes_one (announces p (target first)) (confirms (source_place z v.known walk.at Left) first ∷ []) refl
             (writes_one (confirms (source_place z v.known walk.at Left) first) [] refl writes_none);
+        why = λ lost. absurd (lost refl);
       } idles;
+      named = ap (λ (x : WalkSlot). x.named) (c.kept w (Rattle.pp_walk.proofs.Clearing.kept_is
+          (word_in walk.anchor) v.known.own.first w w (inr (inr refl)))) ∙ ap (λ (x : WalkSlot). x.named) here_2;
+      names = λ j five on. (let was = cleared_names (word_in walk.anchor) v.known.own.first w v2.known u.known c j five on in
+          dite (ℕ_discrete j w)
+          (λ e. inl (was.1 ∙ ap (λ (x : WalkSlot). x.named) (ap (slot v2.known) e ∙ here_2)))
+          (λ ne. inr (ap (λ (x : WalkSlot). x.held) (sym (else_2 j ne)) ∙ was.0, was.1 ∙ ap (λ (x : WalkSlot). x.named) (else_2 j ne))));
     }
 
   -- The link is another one, and the walk word is cleared again.
@@ -262,5 +273,17 @@ module _ (z : Sizes) (v v1 : ListView) (walk : Walk) (w n p : ℕ) (five : lengt
         writes = writes_one (announces p (target first)) (confirms (source_place z v.known walk.at Left) found ∷ clears p ∷ []) refl
             (writes_one (confirms (source_place z v.known walk.at Left) found) (clears p ∷ []) refl
             (writes_one (clears p) [] refl writes_none));
+        why = λ _. inr (inr record {
+          step = confirms (source_place z v.known walk.at Left) found;
+          inside = in_right (confirms (source_place z v.known walk.at Left) found) (announces p (target first) ∷ [])
+              (confirms (source_place z v.known walk.at Left) found ∷ clears p ∷ [])
+              (in_first (confirms (source_place z v.known walk.at Left) found) (clears p ∷ []));
+          again = refl;
+          at = refl;
+          other = miss;
+        });
       };
+      names = λ j five on. dite (ℕ_discrete j w)
+          (λ e. absurd (true≢false (sym on ∙ (ap (λ (k : ℕ). (slot v3.known k).held) e ∙ empty_3.free))))
+          (λ ne. (ap (λ (x : WalkSlot). x.held) (sym (else_3 j ne)) ∙ on, ap (λ (x : WalkSlot). x.named) (else_3 j ne)));
     }

@@ -4,6 +4,9 @@ use Rattle.std.proofs.Common.{set, refl, sym, ap, ◌∙◌, subst, arith}
 use Rattle.std.specs.Prelude.{◌&&◌}
 use Rattle.pp_link.specs.declared.layout.Sizes.{Sizes}
 use Rattle.pp_link.specs.Links.{invalid_bit, flag_bit}
+use Rattle.pp_link.specs.Places.{cell_place}
+use Rattle.std.proofs.Math.Decide.{ℕ_discrete}
+use mathlib.Core.Logic.{dite}
 use Rattle.pp_model.specs.declared.Call.{Call}
 use Rattle.pp_model.specs.declared.Placed.{Placed}
 use Rattle.pp_model.specs.Calls.{key_of, reply_at, changes}
@@ -30,28 +33,52 @@ use Rattle.pp_lists.proofs.Losing.{finds_none, load_valid, load_invalid}
 use Rattle.pp_walk.specs.declared.walk.Walk.{Walk}
 use Rattle.pp_walk.specs.declared.walk.Came.{Came}
 use Rattle.pp_walk.specs.declared.walk.Came.TheVariants.{Moved, Broken, Anchors, Gathers, Ends}
-use Rattle.pp_walk.specs.Words.{IsEmpty, Cleared, SameCallOf, SameRest}
+use Rattle.pp_walk.specs.Words.{IsEmpty, Cleared, SameCallOf, SameRest, HoldsNoMore}
 use Rattle.pp_walk.specs.Roles.{is_look}
 use Rattle.pp_walk.specs.Trod.{Quiet}
 use Rattle.pp_walk.specs.Turns.{Answers}
-use Rattle.pp_walk.specs.Parts.{Holds, SameOf, CameHere, Stopped, EndsAt, GathersAt}
-use Rattle.pp_walk.proofs.Counting.{quiet_one, quiet_both, quiet_idle, same_through, rest_through, same_self, rest_self}
+use Rattle.pp_walk.specs.Parts.{Holds, SameOf, CameHere, Stopped, EndsAt, GathersAt, LosesAt}
+use Rattle.pp_walk.proofs.Clearing.{cleared_names}
+use Rattle.pp_walk.proofs.Counting.{lose_one, lose_more, lose_then, quiet_one, quiet_both, quiet_idle, same_through, rest_through, same_self, rest_self}
 use Rattle.pp_walk.proofs.Standing.{holds_learnt, anchors_at, begins_again, chains_held, gathers_at, gathers_key, anchor_on}
+
+-- what is held stays in the same words
+holds_through : (a b c : ListPass) → HoldsNoMore a b → HoldsNoMore b c → HoldsNoMore a c
+holds_through a b c x y j low on = let second = y j low on in let first = x j low second.0 in (first.0, second.1 ∙ first.1)
+
+same_walk_names : (q q' : ListPass) → q'.walk ≡ q.walk → HoldsNoMore q q'
+same_walk_names q q' walk j low on = let same : slot q' j ≡ slot q j = ap
+    (λ (ws : List WalkSlot). Rattle.std.specs.Prelude.slice_index_or ws j Rattle.pp_rule.specs.Views.blank) walk in
+    (ap (λ (s : WalkSlot). s.held) (sym same) ∙ on, ap (λ (s : WalkSlot). s.named) same)
+
+-- more was learnt of a record
+learnt_names : (q q' : ListPass) (w : ℕ) (s : WalkSlot) → q'.walk ≡ set q.walk w s → w < length q.walk
+    → s.held ≡ (slot q w).held → s.named ≡ (slot q w).named → HoldsNoMore q q'
+learnt_names q q' w s walk low held named j five on = dite (ℕ_discrete j w)
+    (λ e. let here = slot_here q q' w s walk low in let at : slot q' j ≡ s = ap (slot q') e ∙ here in
+    let back : slot q w ≡ slot q j = ap (slot q) (sym e) in (
+      ap (λ (x : WalkSlot). x.held) (sym back) ∙ (sym held ∙ (ap (λ (x : WalkSlot). x.held) (sym at) ∙ on)),
+      ap (λ (x : WalkSlot). x.named) at ∙ (named ∙ ap (λ (x : WalkSlot). x.named) back),
+    ))
+    (λ ne. let same : slot q' j ≡ slot q j = slot_else q q' w s walk j ne in
+    (ap (λ (x : WalkSlot). x.held) (sym same) ∙ on, ap (λ (x : WalkSlot). x.named) same))
 
 pub same_of : (v u w : ListView) → SameOf v u → SameOf u w → SameOf v w
 same_of v u w a b = record {
   same = same_through v.known.own u.known.own w.known.own a.same b.same;
   rest = rest_through v.known u.known w.known a.rest b.rest;
+  names = holds_through v.known u.known w.known a.names b.names;
 }
 
 pub same_known : (v u : ListView) → u.known ≡ v.known → SameOf v u
 same_known v u is = record {
   same = subst (λ (q : ListPass). SameCallOf v.known.own q.own) (sym is) (same_self v.known.own);
   rest = subst (λ (q : ListPass). SameRest v.known q) (sym is) (rest_self v.known);
+  names = same_walk_names v.known u.known (ap (λ (q : ListPass). q.walk) is);
 }
 
 same_cleared : (a b c : ℕ) (v u : ListView) → Cleared a b c v.known u.known → SameOf v u
-same_cleared a b c v u d = record { same = d.same; rest = d.rest }
+same_cleared a b c v u d = record { same = d.same; rest = d.rest; names = cleared_names a b c v.known u.known d }
 
 -- a load of a link without INVALID finds nothing, and one of a link with INVALID loses the turn
 load_ok : (p link : ℕ) (known : ListPass) (v u : ListView) → known.number ≡ v.known.number → known.owned ≡ v.known.owned
@@ -60,11 +87,12 @@ load_ok : (p link : ℕ) (known : ListPass) (v u : ListView) → known.number �
 load_ok p link known v u number owned ok made = quiet_one 0 (loads p link) v u (plain_one (loads p link) known v u number owned made)
     (λ sizes earlier. load_valid sizes earlier p link [] ok ∙ finds_none sizes (loads p link ∷ earlier)) refl
 
-load_bad : (p link : ℕ) (known : ListPass) (v u : ListView) → known.number ≡ v.known.number → known.owned ≡ v.known.owned
+load_bad : (place p link : ℕ) (known : ListPass) (v u : ListView) → known.number ≡ v.known.number → known.owned ≡ v.known.owned
     → invalid_bit link ≡ 1
-    → MadeQuietStep load_step p link link known v u → Quiet 1 v u
-load_bad p link known v u number owned bad made = quiet_one 1 (loads p link) v u (plain_one (loads p link) known v u number owned made)
-    (λ sizes earlier. load_invalid sizes earlier p link bad) refl
+    → MadeQuietStep load_step p link link known v u → p ≡ place → LosesAt place v u
+load_bad place p link known v u number owned bad made at =
+    lose_one place (loads p link) v u (plain_one (loads p link) known v u number owned made)
+    (λ sizes earlier. load_invalid sizes earlier p link bad) refl refl at bad
 
 -- The key was read: nothing else changed.
 pub read_quiet : (i f found p : ℕ) (v u : ListView) → ReadField i f found p v u → Quiet 0 v u
@@ -80,7 +108,12 @@ pub here_after : (z : Sizes) (walk : Walk) (w : ℕ) (v v1 u : ListView) (came :
     → CameHere z walk w v1 u came
     → CameHere z walk w v u came
 here_after z walk w v v1 u Moved is quiet c = c
-here_after z walk w v v1 u Broken is quiet c = (same_of v v1 u (same_known v v1 is) c.0, c.1, quiet_both 0 1 1 refl v v1 u quiet c.2)
+here_after z walk w v v1 u Broken is quiet c = (
+  same_of v v1 u (same_known v v1 is) c.0,
+  c.1,
+  subst (λ (q : ListPass). LosesAt (cell_place z (slot q w).named 2) v u) is
+      (lose_then (cell_place z (slot v1.known w).named 2) v v1 u quiet c.2),
+)
 here_after z walk w v v1 u (Anchors i) is quiet c = (
   same_of v v1 u (same_known v v1 is) c.0,
   record { walks = c.1.walks; nothing = c.1.nothing },
@@ -104,6 +137,7 @@ here_after z walk w v v1 u (Ends i key link) is quiet c = (
       subst (λ (q : ListPass). EndsAt z walk.call walk.anchor i key link q.own c.1.0 u) is c.1.1.1,
     ),
   ),
+  c.2,
 )
 
 -- The walk stops at the record, whatever becomes of the call.
@@ -142,13 +176,14 @@ stopped_of z q q' call anchor w key link walk same_call same_at first chain h re
     lower lt = subst (λ (f : ℕ). f < 5) first lt
 
 module _ (z : Sizes) (walk : Walk) (w : ℕ) (v : ListView) (h : Holds z v.known walk.call walk.anchor w) where
-  broken : (v2 u : ListView) → SameOf v v2 → Holds z v2.known walk.call walk.anchor w → Quiet 1 v v2 → Cleared 5 5 5 v2.known u.known
+  broken : (v2 u : ListView) → SameOf v v2 → Holds z v2.known walk.call walk.anchor w
+      → LosesAt (cell_place z (slot v.known w).named 2) v v2 → Cleared 5 5 5 v2.known u.known
       → Quiet 0 v2 u
       → CameHere z walk w v u Broken
   broken v2 u same h2 lost c idles = (
     same_of v v2 u same (same_cleared 5 5 5 v2 u c),
     begins_again v2.known u.known walk.call walk.anchor h2.going h2.call_is (chains_held z v2.known walk.call walk.anchor w h2) c,
-    quiet_both 1 0 1 refl v v2 u lost idles,
+    lose_more (cell_place z (slot v.known w).named 2) v v2 u lost idles,
   )
 
   -- what is left where the left link of the record was loaded that a get stands at
@@ -190,6 +225,7 @@ module _ (z : Sizes) (walk : Walk) (w : ℕ) (v : ListView) (h : Holds z v.known
               same = subst (λ (o : ListOwn). SameCallOf v.known.own o) (sym (ap (λ (q : ListPass). q.own) is)) (same_self v.known.own);
               rest = subst (λ (q : ListPass). SameRest v.known q) (sym is)
                   record { number = refl; sizes = refl; owned = refl; retired_are = refl; frontier = refl; chains = refl; scan = refl };
+              names = learnt_names v.known v2.known w (more_of link) walk_2 (let low = h.low in omega arith) refl refl;
             };
             key = ap (λ (s : WalkSlot). s.key) here;
             known = with_walk w (more_of link) v.known;
@@ -200,9 +236,9 @@ module _ (z : Sizes) (walk : Walk) (w : ℕ) (v : ListView) (h : Holds z v.known
 
   pub look_broken : (p link : ℕ) (v2 u : ListView) → length v.known.walk ≡ 5
       → LoadedLink (learning_at list_frozen (Word w) Left link v.known) link p v v2 → invalid_bit link ≡ 1 → Cleared 5 5 5 v2.known u.known
-      → Quiet 0 v2 u → CameHere z walk w v u Broken
-  look_broken p link v2 u five l bad c idles = let k = looked p link v2 five l in
-      broken v2 u k.same k.holds (load_bad p link k.known v v2 k.number k.owned bad k.made) c idles
+      → Quiet 0 v2 u → p ≡ cell_place z (slot v.known w).named 2 → CameHere z walk w v u Broken
+  look_broken p link v2 u five l bad c idles at = let k = looked p link v2 five l in
+      broken v2 u k.same k.holds (load_bad _ p link k.known v v2 k.number k.owned bad k.made at) c idles
 
   pub look_anchors : (p link : ℕ) (v2 u : ListView) → length v.known.walk ≡ 5
       → LoadedLink (learning_at list_frozen (Word w) Left link v.known) link p v v2 → invalid_bit link ≡ 0 → is_look walk.call ≡ true
@@ -249,6 +285,7 @@ module _ (z : Sizes) (walk : Walk) (w : ℕ) (v : ListView) (h : Holds z v.known
               same = subst (λ (q : ListPass). SameCallOf v.known.own q.own) (sym is) record { call = refl; start = refl; left = refl };
               rest = subst (λ (q : ListPass). SameRest v.known q) (sym is)
                   record { number = refl; sizes = refl; owned = refl; retired_are = refl; frontier = refl; chains = refl; scan = refl };
+              names = same_walk_names v.known u.known (ap (λ (q : ListPass). q.walk) is);
             },
             record {
               stopped = stopped_of z v.known u.known walk.call walk.anchor w key link (ap (λ (q : ListPass). q.walk) is)
@@ -297,16 +334,16 @@ module _ (z : Sizes) (walk : Walk) (w : ℕ) (v : ListView) (h : Holds z v.known
 
   pub end_broken : (p link : ℕ) (v2 u : ListView) → Ended p link v v2 → invalid_bit link ≡ 1 → Cleared 5 5 5 v2.known u.known
       → Quiet 0 v2 u
-      → CameHere z walk w v u Broken
-  end_broken p link v2 u e bad c idles = let made = e.invalid bad in let is = known_after load_step p link link [] [] v.known v v2 made in
+      → p ≡ cell_place z (slot v.known w).named 2 → CameHere z walk w v u Broken
+  end_broken p link v2 u e bad c idles at = let made = e.invalid bad in let is = known_after load_step p link link [] [] v.known v v2 made in
       broken v2 u (same_known v v2 is) (subst (λ (q : ListPass). Holds z q walk.call walk.anchor w) (sym is) h)
-      (load_bad p link v.known v v2 refl refl bad made) c idles
+      (load_bad _ p link v.known v v2 refl refl bad made at) c idles
 
   pub end_stops : (p key link : ℕ) (u : ListView) → Ended p link v u → (slot v.known w).named ≢ 0 → key ≡ (slot v.known w).key
       → key_of walk.call ≤ key → invalid_bit link ≡ 0 → is_look walk.call ≡ true → CameHere z walk w v u (Ends w key link)
   end_stops p key link u e real key_is high ok look = let x = ends_with p key link u (e.ended ok) real key_is high ok
       (λ n. absurd (Rattle.std.proofs.Common.true≢false (sym look ∙ n))) in
-      (x.0, (v, (Rattle.pp_walk.proofs.Counting.quiet_none v, x.1)))
+      (x.0, (v, (Rattle.pp_walk.proofs.Counting.quiet_none v, x.1)), refl)
 
   -- a removed record joins what was gathered
   gathers_here : (p link : ℕ) (u : ListView) → length v.known.walk ≡ 5 → MadeQuietStep load_step p link link (gathering w link v.known) v u
@@ -321,6 +358,8 @@ module _ (z : Sizes) (walk : Walk) (w : ℕ) (v : ListView) (h : Holds z v.known
           same = subst (λ (q : ListPass). SameCallOf v.known.own q.own) (sym is) record { call = refl; start = refl; left = refl };
           rest = subst (λ (q : ListPass). SameRest v.known q) (sym is)
               record { number = refl; sizes = refl; owned = refl; retired_are = refl; frontier = refl; chains = refl; scan = refl };
+          names = learnt_names v.known u.known w (record (slot v.known w) { learnt = (0, link) ∷ (slot v.known w).learnt })
+              (ap (λ (q : ListPass). q.walk) is) (let low = h.low in omega arith) refl refl;
         },
         subst (λ (q : ListPass). Rattle.pp_walk.specs.Roles.Walking z q walk.call (Word w) walk.anchor
             → GathersAt z walk.call walk.anchor w v.known.own u) is
@@ -336,19 +375,19 @@ module _ (z : Sizes) (walk : Walk) (w : ℕ) (v : ListView) (h : Holds z v.known
 
   pub pass_broken : (p link : ℕ) (v2 u : ListView) → PassesBy w p link v v2 → invalid_bit link ≡ 1 → Cleared 5 5 5 v2.known u.known
       → Quiet 0 v2 u
-      → CameHere z walk w v u Broken
-  pass_broken p link v2 u e bad c idles = let made = e.gathers.invalid bad in
+      → p ≡ cell_place z (slot v.known w).named 2 → CameHere z walk w v u Broken
+  pass_broken p link v2 u e bad c idles at = let made = e.gathers.invalid bad in
       let is = known_after load_step p link link [] [] v.known v v2 made in
       broken v2 u (same_known v v2 is) (subst (λ (q : ListPass). Holds z q walk.call walk.anchor w) (sym is) h)
-      (load_bad p link v.known v v2 refl refl bad made) c idles
+      (load_bad _ p link v.known v v2 refl refl bad made at) c idles
 
   pub stop_broken : (p link : ℕ) (v2 u : ListView) → StopsAt w p link v v2 → invalid_bit link ≡ 1 → Cleared 5 5 5 v2.known u.known
       → Quiet 0 v2 u
-      → CameHere z walk w v u Broken
-  stop_broken p link v2 u e bad c idles = let made = e.gathers.invalid bad in
+      → p ≡ cell_place z (slot v.known w).named 2 → CameHere z walk w v u Broken
+  stop_broken p link v2 u e bad c idles at = let made = e.gathers.invalid bad in
       let is = known_after load_step p link link [] [] v.known v v2 made in
       broken v2 u (same_known v v2 is) (subst (λ (q : ListPass). Holds z q walk.call walk.anchor w) (sym is) h)
-      (load_bad p link v.known v v2 refl refl bad made) c idles
+      (load_bad _ p link v.known v v2 refl refl bad made at) c idles
 
   pub pass_gathers : (p link : ℕ) (u : ListView) → length v.known.walk ≡ 5 → PassesBy w p link v u
       → (slot v.known w).named ≢ 0 → (slot v.known w).key < 2 ^ 64 → invalid_bit link ≡ 0 → flag_bit link ≡ 1 → is_look walk.call ≡ false
@@ -376,6 +415,7 @@ module _ (z : Sizes) (walk : Walk) (w : ℕ) (v : ListView) (h : Holds z v.known
           same = subst (λ (q : ListPass). SameCallOf v.known.own q.own) (sym is) record { call = refl; start = refl; left = refl };
           rest = subst (λ (q : ListPass). SameRest v.known q) (sym is)
               record { number = refl; sizes = refl; owned = refl; retired_are = refl; frontier = refl; chains = refl; scan = refl };
+          names = same_walk_names v.known v2.known (ap (λ (q : ListPass). q.walk) is);
         } (same_cleared w 5 5 v2 u c),
         record { walks = a.0; nothing = a.1 },
         quiet_both 0 0 0 refl v v2 u (load_ok p link (with_own (anchored v.known.own) v.known) v v2 refl refl ok made) idles,
@@ -387,4 +427,4 @@ module _ (z : Sizes) (walk : Walk) (w : ℕ) (v : ListView) (h : Holds z v.known
       → key_of walk.call ≤ key → invalid_bit link ≡ 0 → flag_bit link ≡ 0 → CameHere z walk w v u (Ends w key link)
   stop_stops p key link u e real key_is high ok plain = let x = ends_with p key link u (e.ended ok plain) real key_is high ok
       (λ _. plain) in
-      (x.0, (v, (Rattle.pp_walk.proofs.Counting.quiet_none v, x.1)))
+      (x.0, (v, (Rattle.pp_walk.proofs.Counting.quiet_none v, x.1)), refl)

@@ -1,5 +1,7 @@
 -- Whole turns of a walk.
-use Rattle.std.proofs.Common.{◌≡◌, ◌≢◌, ℕ, ◌+◌, ◌%◌, ◌^◌, ◌<◌, ◌≤◌, Bool, true, false, cond, nat_eq, nat_lt, List, [], ◌∷◌, ◌++◌, length}
+use Rattle.std.proofs.Common.{◌≡◌, ◌≢◌, ℕ, ◌+◌, ◌%◌, ◌^◌, ◌<◌, ◌≤◌, Bool, true, false, cond, nat_eq, nat_lt, List, [], ◌∷◌, ◌++◌, length, inl, inr}
+use Rattle.pp_link.specs.Places.{cell_place}
+use Rattle.pp_walk.proofs.Clearing.{cleared_names}
 use Rattle.std.proofs.Common.{Option, None, refl, sym, ap, ◌∙◌, subst, arith, true≢false, append-nil, ltb-true, eq-eqb}
 use Rattle.std.specs.Prelude.{min}
 use Rattle.std.proofs.Math.Decide.{ℕ_discrete}
@@ -35,15 +37,15 @@ use Rattle.pp_lists.proofs.Losing.{onto, finds_append, idle_finds, load_valid, l
 use Rattle.pp_walk.specs.declared.walk.Walk.{Walk}
 use Rattle.pp_walk.specs.declared.walk.Turn.TheVariants.{On, Lost}
 use Rattle.pp_walk.specs.declared.walk.Came.TheVariants.{Moved, Broken, Anchors, Gathers, Ends}
-use Rattle.pp_walk.specs.Words.{IsEmpty, Cleared, SameCallOf, SameRest}
+use Rattle.pp_walk.specs.Words.{IsEmpty, Cleared, SameCallOf, SameRest, HoldsBut}
 use Rattle.pp_walk.specs.Roles.{IsWalk, Walking, Counts, nothing, most}
 use Rattle.pp_walk.specs.Roles.{lower_of, StandsOn}
 use Rattle.pp_walk.specs.Trod.{Quiet, RestOfTurn}
 use Rattle.pp_walk.specs.Turns.{TurnsTo, Turned, Arrives, Answers}
-use Rattle.pp_walk.specs.Parts.{LoadsFirst, BeginsAgain, CameOn, SameOf, EndsAt, gathered_at, finding}
+use Rattle.pp_walk.specs.Parts.{LoadsFirst, BeginsAgain, CameOn, SameOf, EndsAt, gathered_at, finding, SameBut}
 use Rattle.pp_walk.proofs.Counting.{rest_through, same_self, writes_one, writes_none, writes_both}
 use Rattle.pp_walk.proofs.Standing.{begins_again, chains_of, Chains, anchor_on}
-use Rattle.pp_walk.proofs.Finding.{found_there, found_is, found_nil}
+use Rattle.pp_walk.proofs.Finding.{found_there, found_is, found_nil, plain_target}
 use Rattle.pp_walk.proofs.Loading.{from_on}
 use Rattle.pp_walk.proofs.Strands.{strand_one, strand_both, strand_made, trod_of}
 
@@ -83,14 +85,15 @@ own_before u w s own x i = own x (subst (λ (o : List (LoggedStep Change Placed)
     (in_left x u.order s.order.0 i))
 
 -- the steps of a turn whose first load found INVALID
-rest_bad : (place first : ℕ) (u w : ListView) → invalid_bit first ≡ 1 → Quiet 0 u w → RestOfTurn 1 place first u w
-rest_bad place first u w bad q = record {
+rest_bad : (z : Sizes) (place first : ℕ) (u w : ListView) → invalid_bit first ≡ 1 → Quiet 0 u w → RestOfTurn z 1 place first u w
+rest_bad z place first u w bad q = record {
   steps = q.steps;
   did = q.did;
   loses = λ sizes earlier. let all = finds_append sizes earlier (loads place first ∷ []) q.steps in
       let a = load_invalid sizes earlier place first bad in
       let b = q.loses sizes (loads place first ∷ earlier) in let more = onto_one place first earlier q.steps sizes in omega arith;
   writes = q.writes;
+  why = λ _. inl bad;
 }
   where
     onto_one : (place first : ℕ) (earlier steps : List NamedStep) (sizes : MapSizes)
@@ -131,11 +134,17 @@ module _ (z : Sizes) (walk : Walk) (first : ℕ) (v u : ListView) (is : IsWalk z
   call_u : (w : ListView) → SameCallOf u.known.own w.known.own → SameCallOf l.own w.known.own
   call_u w s = subst (λ (o : ListOwn). SameCallOf o w.known.own) own_u s
 
+  -- the first load holds no other record
+  names_u : (w : ListView) → HoldsBut (target first) u.known w.known → HoldsBut (target first) v.known w.known
+  names_u w names = subst (λ (ws : List WalkSlot). HoldsBut (target first) (record u.known { walk = ws }) w.known)
+      (ap (λ (q : ListPass). q.walk) known_u) names
+
   -- what the steps after it make of the turn
-  pub turned_rest : (lost : ℕ) (w : ListView) → SameOf u w → RestOfTurn lost (source_place z u.known walk.at Left) first u w
-      → Turned walk lost [] l.own v w
+  pub turned_rest : (lost : ℕ) (w : ListView) → SameBut (target first) u w
+      → RestOfTurn z lost (source_place z u.known walk.at Left) first u w → Turned z walk lost [] l.own v w
+  unfolding trod_of
   turned_rest lost w s r = let place : ℕ = source_place z v.known walk.at Left in
-      let rest : RestOfTurn lost place first u w = subst (λ (p : ℕ). RestOfTurn lost p first u w) place_u r in
+      let rest : RestOfTurn z lost place first u w = subst (λ (p : ℕ). RestOfTurn z lost p first u w) place_u r in
       let steps : List NamedStep = loads place first ∷ rest.steps in
       let did : Made steps v w = (
         u,
@@ -150,15 +159,22 @@ module _ (z : Sizes) (walk : Walk) (first : ℕ) (v u : ListView) (is : IsWalk z
         rest = rest_through v.known u.known w.known rest_u s.rest;
         trod = trod_of lost steps [] v w (strand_made steps v w did) (omega arith) rest.loses
             (writes_one (loads place first) rest.steps refl rest.writes);
+        first = first;
+        behind = rest.steps;
+        steps_are = refl;
+        why = rest.why;
+        some_next = λ _. going;
+        names = names_u w s.names;
         stands = λ own st. stands_made steps v w did own st;
       }
 
   -- It came to the end of its walk.
-  pub turned_end : (call : Call) (anchor : Place) (i key link : ℕ) (last w : ListView) → SameOf u w
-      → RestOfTurn 0 (source_place z u.known walk.at Left) first u last → (e : EndsAt z call anchor i key link u.known.own last w)
-      → Turned walk 0 e.calls l.own v w
+  pub turned_end : (call : Call) (anchor : Place) (i key link : ℕ) (last w : ListView) → SameBut (target first) u w
+      → RestOfTurn z 0 (source_place z u.known walk.at Left) first u last → (e : EndsAt z call anchor i key link u.known.own last w)
+      → Turned z walk 0 e.calls l.own v w
+  unfolding trod_of
   turned_end call anchor i key link last w s r e = let place : ℕ = source_place z v.known walk.at Left in
-      let rest : RestOfTurn 0 place first u last = subst (λ (p : ℕ). RestOfTurn 0 p first u last) place_u r in
+      let rest : RestOfTurn z 0 place first u last = subst (λ (p : ℕ). RestOfTurn z 0 p first u last) place_u r in
       let steps : List NamedStep = loads place first ∷ rest.steps in
       let stop : NamedStep = record { kind = end_step; place = e.place; word = link } in
       let did : Made steps v last = (
@@ -186,6 +202,12 @@ module _ (z : Sizes) (walk : Walk) (first : ℕ) (v u : ListView) (is : IsWalk z
             }) in omega arith)
             (writes_both steps (stop ∷ []) (writes_one (loads place first) rest.steps refl rest.writes)
             (writes_one stop [] refl writes_none));
+        first = first;
+        behind = rest.steps ++ stop ∷ [];
+        steps_are = refl;
+        why = λ lost. absurd (lost refl);
+        some_next = λ lost _. lost refl;
+        names = names_u w s.names;
         stands = λ own st. by (changes (reply_at u.known.own.call
             (found_at (key_of call) (slot w.known i).key (slot w.known i).value link))) refl own
             (stands_made steps v last did (own_before last w one.stepped own) st);
@@ -204,8 +226,12 @@ module _ (z : Sizes) (walk : Walk) (first : ℕ) (v u : ListView) (is : IsWalk z
       (chains_of u.known walk.at walk.anchor walks_u.gathered) c in record {
         goes = record {
           own = l.own;
-          turned = turned_rest 1 w record { same = c.same; rest = c.rest }
-              (rest_bad (source_place z u.known walk.at Left) first u w bad q);
+          turned = turned_rest 1 w record {
+            same = c.same;
+            rest = c.rest;
+            names = λ j five on. inr (cleared_names 5 5 5 u.known w.known c j five on);
+          }
+              (rest_bad z (source_place z u.known walk.at Left) first u w bad q);
           walks = again_walk z w.known walk is.low is.home b;
           under_way = refl;
         };
@@ -305,6 +331,7 @@ module _ (z : Sizes) (walk : Walk) (first : ℕ) (v u : ListView) (is : IsWalk z
       → n < 4294967296
       → equal ≡ nat_eq key (key_of walk.call) → marked ≡ nat_eq (flag_bit link) 1
       → Arrives z walk (finding (started walk) w.known n i equal marked) v w
+  unfolding turned_end
   turn_ends i key link n equal marked w c number small same marks = let last : ListView = c.1.0 in let e = c.1.1.1 in
       let s = e.stopped in record {
         own = l.own;
@@ -319,11 +346,13 @@ module _ (z : Sizes) (walk : Walk) (first : ℕ) (v u : ListView) (is : IsWalk z
             (found_is w.known walk.call (started walk) i key link n equal marked s.key_is same marks)
             (subst (λ (o : ListOwn). Answers o (found_at (key_of walk.call) (slot w.known i).key
             (slot w.known i).value link) e.calls w) own_u e.answers);
+        end_is = plain_target n ∙ (number ∙ c.2);
       }
 
 -- It ended at nil, by its first load.
 pub turn_nil : (z : Sizes) (walk : Walk) (first : ℕ) (v u : ListView) → IsWalk z v.known walk → LoadsFirst z walk first v u → IsNil first
     → Arrives z walk (finding (started walk) u.known 0 0 false false) v u
+unfolding trod_of
 turn_nil z walk first v u is l nil = by (changes (reply_at l.own.call None)) refl
   where
     q0 : ListPass
@@ -355,6 +384,12 @@ turn_nil z walk first v u is l nil = by (changes (reply_at l.own.call None)) ref
             trod = trod_of 0 (loads place first ∷ []) calls v u one (omega arith)
                 (λ sizes earlier. load_valid sizes earlier place first [] nil.0 ∙ finds_none sizes (loads place first ∷ earlier))
                 (writes_one (loads place first) [] refl writes_none);
+            first = first;
+            behind = [];
+            steps_are = refl;
+            why = λ lost. absurd (lost refl);
+            some_next = λ lost _. lost refl;
+            names = λ j five on. inr (ap (λ (s : WalkSlot). s.held) (sym (each j)) ∙ on, ap (λ (s : WalkSlot). s.named) (each j));
             stands = stands;
           };
           found = found_nil z u.known walk.call (started walk) (ap (λ (o : ListOwn). o.call) own ∙ (same.call ∙ l.call_is))
@@ -378,6 +413,7 @@ turn_nil z walk first v u is l nil = by (changes (reply_at l.own.call None)) ref
               (l.gathered ∙ sym first_is)
               (l.counts ∙ ap (λ (cs : List Rattle.pp_lists.specs.declared.own.Gathered.Gathered). min (length cs) most) (sym chain_is));
           answers = answers;
+          end_is = plain_target 0 ∙ sym nil.1;
         }
       where
         empty_0 : (j : ℕ) → j < 5 → Word j ≢ walk.anchor → j ≢ l.own.first → j ≢ l.own.at → IsEmpty (slot v.known j)

@@ -3,6 +3,7 @@ use Rattle.std.specs.Prelude.{◌≡◌, ◌≢◌, ◌⊎◌, ℕ, ◌+◌, ◌
 use Rattle.pp_link.specs.declared.layout.Sizes.{Sizes}
 use Rattle.pp_link.specs.declared.link.Link.{Link}
 use Rattle.pp_link.specs.Links.{target, invalid_bit, flag_bit}
+use Rattle.pp_link.specs.Places.{cell_place}
 use Rattle.pp_model.specs.declared.Call.{Call}
 use Rattle.pp_model.specs.declared.Placed.{Placed}
 use Rattle.pp_model.specs.Calls.{key_of}
@@ -21,9 +22,9 @@ use Rattle.pp_walk.specs.declared.walk.Found.{Found}
 use Rattle.pp_walk.specs.declared.walk.Came.{Came}
 use Rattle.pp_walk.specs.declared.walk.Came.TheVariants.{Moved, Broken, Anchors, Gathers, Ends}
 use Rattle.pp_walk.specs.Steps.{LeadsTo}
-use Rattle.pp_walk.specs.Words.{IsEmpty, AllEmpty, SameCallOf, SameRest}
+use Rattle.pp_walk.specs.Words.{IsEmpty, AllEmpty, SameCallOf, SameRest, HoldsNoMore, HoldsBut}
 use Rattle.pp_walk.specs.Roles.{IsAnchor, Walking, is_look, lower_of, most}
-use Rattle.pp_walk.specs.Trod.{Quiet, RestOfTurn}
+use Rattle.pp_walk.specs.Trod.{Quiet, RestOfTurn, MetInvalid}
 use Rattle.pp_walk.specs.Turns.{From, Answers}
 
 -- the walk word of a place, or 5 at a head
@@ -80,7 +81,9 @@ pub record HoldsNext (z : Sizes) (walk : Walk) (w place first : ℕ) (v u : List
   pub gathered : SameGathered v.known.own u.known.own
   pub same : SameCallOf v.known.own u.known.own
   pub rest : SameRest v.known u.known
-  pub turn : RestOfTurn 0 place first v u
+  pub turn : RestOfTurn z 0 place first v u
+  pub named : (slot u.known w).named ≡ target first
+  pub names : HoldsBut (target first) v.known u.known
 
 -- The link was another word when it was loaded again: the call stands where it stood.
 pub record LosesNext (z : Sizes) (walk : Walk) (place first : ℕ) (v u : ListView) : Type 0 where
@@ -88,7 +91,8 @@ pub record LosesNext (z : Sizes) (walk : Walk) (place first : ℕ) (v u : ListVi
   pub gathered : SameGathered v.known.own u.known.own
   pub same : SameCallOf v.known.own u.known.own
   pub rest : SameRest v.known u.known
-  pub turn : RestOfTurn 1 place first v u
+  pub turn : RestOfTurn z 1 place first v u
+  pub names : HoldsNoMore v.known u.known
 
 -- the call has no walk word in use, and walks on from its head
 pub record BeginsAgain (q : ListPass) (call : Call) : Type 0 where
@@ -149,6 +153,18 @@ pub record EndsAt (z : Sizes) (call : Call) (anchor : Place) (w key link : ℕ) 
 pub record SameOf (v u : ListView) : Type 0 where
   pub same : SameCallOf v.known.own u.known.own
   pub rest : SameRest v.known u.known
+  pub names : HoldsNoMore v.known u.known
+
+-- the same, while it came to hold the record n
+pub record SameBut (n : ℕ) (v u : ListView) : Type 0 where
+  pub same : SameCallOf v.known.own u.known.own
+  pub rest : SameRest v.known u.known
+  pub names : HoldsBut n v.known u.known
+
+-- A turn was lost by steps that found INVALID at this place.
+pub record LosesAt (place : ℕ) (v u : ListView) : Type 0 where
+  pub quiet : Quiet 1 v u
+  pub met : MetInvalid place quiet.steps
 
 -- the key of the record in the walk word w stays, and is one of 64 bits
 abbrev pub SameKey : ℕ → ListView → ListView → Type 0
@@ -157,23 +173,24 @@ SameKey w v u = ((slot u.known w).key ≡ (slot v.known w).key) × ((slot u.know
 -- How a walk came on at the record that it holds in the walk word w.
 abbrev pub CameHere : Sizes → Walk → ℕ → ListView → ListView → Came → Type 0
 CameHere z walk w v u Moved = ⊥
-CameHere z walk w v u Broken = SameOf v u × BeginsAgain u.known walk.call × Quiet 1 v u
+CameHere z walk w v u Broken = SameOf v u × BeginsAgain u.known walk.call × LosesAt (cell_place z (slot v.known w).named 2) v u
 CameHere z walk w v u (Anchors i) = SameOf v u × AnchorsAt z walk.call i v.known.own u × Quiet 0 v u × (i ≡ w) × SameKey w v u
 CameHere z walk w v u (Gathers i) = SameOf v u × GathersAt z walk.call walk.anchor i v.known.own u × Quiet 0 v u × (i ≡ w) × SameKey w v u
 CameHere z walk w v u (Ends i key link) = SameOf v u
-    × ((last : ListView) × (Quiet 0 v last × EndsAt z walk.call walk.anchor i key link v.known.own last u))
+    × ((last : ListView) × (Quiet 0 v last × EndsAt z walk.call walk.anchor i key link v.known.own last u)) × (i ≡ w)
 
 -- How it came on from its place, after a first load that found this word there.
 abbrev pub CameOn : Sizes → Walk → ℕ → ℕ → ListView → ListView → Came → Type 0
-CameOn z walk place first v u Moved = SameOf v u × Walking z u.known walk.call walk.at walk.anchor
-    × SameGathered v.known.own u.known.own × RestOfTurn 1 place first v u × (is_look walk.call ≡ true)
-CameOn z walk place first v u Broken = SameOf v u × BeginsAgain u.known walk.call × RestOfTurn 1 place first v u
-CameOn z walk place first v u (Anchors i) = SameOf v u × AnchorsAt z walk.call i v.known.own u × RestOfTurn 0 place first v u
+CameOn z walk place first v u Moved = SameBut (target first) v u × Walking z u.known walk.call walk.at walk.anchor
+    × SameGathered v.known.own u.known.own × RestOfTurn z 1 place first v u × (is_look walk.call ≡ true)
+CameOn z walk place first v u Broken = SameBut (target first) v u × BeginsAgain u.known walk.call × RestOfTurn z 1 place first v u
+CameOn z walk place first v u (Anchors i) = SameBut (target first) v u × AnchorsAt z walk.call i v.known.own u × RestOfTurn z 0 place first v u
     × (lower_of v.known walk.at < lower_of u.known (Word i)) × (lower_of u.known (Word i) ≤ 2 ^ 64)
-CameOn z walk place first v u (Gathers i) = SameOf v u × GathersAt z walk.call walk.anchor i v.known.own u × RestOfTurn 0 place first v u
+CameOn z walk place first v u (Gathers i) = SameBut (target first) v u × GathersAt z walk.call walk.anchor i v.known.own u × RestOfTurn z 0 place first v u
     × (lower_of v.known walk.at < lower_of u.known (Word i)) × (lower_of u.known (Word i) ≤ 2 ^ 64)
-CameOn z walk place first v u (Ends i key link) = SameOf v u
-    × ((last : ListView) × (RestOfTurn 0 place first v last × EndsAt z walk.call walk.anchor i key link v.known.own last u))
+CameOn z walk place first v u (Ends i key link) = SameBut (target first) v u
+    × ((last : ListView) × (RestOfTurn z 0 place first v last × EndsAt z walk.call walk.anchor i key link v.known.own last u))
+    × ((slot u.known i).named ≡ target first)
 
 -- the walk whose call gathered the record in this walk word
 abbrev pub gathered_at : ℕ → Walk → Walk

@@ -1,5 +1,5 @@
 -- What a turn of a walk makes of the view of its pass.
-use Rattle.std.specs.Prelude.{◌≡◌, ℕ, ◌^◌, ◌<◌, ◌≤◌, Bool, true, false, List, [], ◌∷◌, length, Option}
+use Rattle.std.specs.Prelude.{◌≡◌, ◌≢◌, ℕ, ◌^◌, ◌<◌, ◌≤◌, Bool, true, false, List, [], ◌∷◌, length, Option}
 use Rattle.pp_link.specs.declared.layout.Sizes.{Sizes}
 use Rattle.pp_model.specs.declared.Call.{Call}
 use Rattle.pp_model.specs.declared.Placed.{Placed}
@@ -8,17 +8,21 @@ use Rattle.pp_model.specs.History.{after, Stands}
 use Rattle.pp_model.specs.MapCalls.{placed}
 use Rattle.pp_rule.specs.Orders.{log_of, placed_by}
 use Rattle.pp_base.specs.declared.source.Place.TheVariants.{Head}
+use Rattle.pp_base.specs.declared.source.Side.TheVariants.{Left}
+use Rattle.pp_base.specs.Sources.{source_place}
+use Rattle.pp_base.specs.Named.{NamedStep, loads}
+use Rattle.pp_link.specs.Links.{target, word_of}
 use Rattle.pp_calls.specs.Steps.{HasOwn, StandsThen}
 use Rattle.pp_lists.specs.declared.own.ListOwn.{ListOwn}
 use Rattle.pp_lists.specs.Walks.{IsRight}
-use Rattle.pp_lists.specs.Turns.{ListView, beginning}
+use Rattle.pp_lists.specs.Turns.{ListView, beginning, IsNil}
 use Rattle.pp_walk.specs.declared.walk.Walk.{Walk}
 use Rattle.pp_walk.specs.declared.walk.Found.{Found}
 use Rattle.pp_walk.specs.declared.walk.Turn.{Turn}
 use Rattle.pp_walk.specs.declared.walk.Turn.TheVariants.{On, At, Lost}
-use Rattle.pp_walk.specs.Words.{AllEmpty, SameCallOf, SameRest}
+use Rattle.pp_walk.specs.Words.{AllEmpty, SameCallOf, SameRest, HoldsBut}
 use Rattle.pp_walk.specs.Roles.{IsWalk, IsFound, found_in, lower_of, is_look}
-use Rattle.pp_walk.specs.Trod.{Trod, FirstSaw}
+use Rattle.pp_walk.specs.Trod.{Trod, FirstSaw, Why}
 
 -- A reply that changes nothing was placed for this call, by a walk that found a. Its place is the least one since the call's start
 -- at which it is right.
@@ -52,17 +56,25 @@ From true call own before now = Starts call own before now
 From false call own before now = own ≡ before.known.own
 
 -- What every turn of a walk makes of its pass, by which so many turns are lost and these calls are placed.
-pub record Turned (was : Walk) (lost : ℕ) (calls : List Placed) (own : ListOwn) (before now : ListView) : Type 0 where
+pub record Turned (z : Sizes) (was : Walk) (lost : ℕ) (calls : List Placed) (own : ListOwn) (before now : ListView) : Type 0 where
   pub from : From was.fresh was.call own before now
   pub same : SameCallOf own now.known.own
   pub rest : SameRest before.known now.known
   pub trod : Trod lost calls before now
+  -- It loaded the link where the call stood, which was this word. Then it made these steps, and came to hold no other record than that
+  -- to which the link leads.
+  pub first : ℕ
+  pub behind : List NamedStep
+  pub steps_are : trod.steps ≡ loads (source_place z before.known was.at Left) first ∷ behind
+  pub why : lost ≢ 0 → Why z (source_place z before.known was.at Left) first behind
+  pub some_next : lost ≢ 0 → IsNil first → ⊥
+  pub names : HoldsBut (target first) before.known now.known
   pub stands : HasOwn now.order → StandsThen before → StandsThen now
 
 -- It goes on.
 pub record Goes (z : Sizes) (was w : Walk) (lost : ℕ) (before now : ListView) : Type 0 where
   pub own : ListOwn
-  pub turned : Turned was lost [] own before now
+  pub turned : Turned z was lost [] own before now
   pub walks : IsWalk z now.known w
   pub under_way : w.fresh ≡ false
 
@@ -81,9 +93,11 @@ pub record GoesBack (z : Sizes) (was w : Walk) (before now : ListView) : Type 0 
 pub record Arrives (z : Sizes) (was : Walk) (f : Found) (before now : ListView) : Type 0 where
   pub own : ListOwn
   pub calls : List Placed
-  pub turned : Turned was 0 calls own before now
+  pub turned : Turned z was 0 calls own before now
   pub found : IsFound z now.known was.call f
   pub answers : Answers own (found_in now.known f) calls now
+  -- the end is where the link led
+  pub end_is : target (word_of f.end) ≡ target turned.first
 
 -- What a turn came to.
 abbrev pub TurnsTo : Sizes → Walk → Walk → ListView → ListView → Turn → Type 0

@@ -1,5 +1,5 @@
 -- The walk words of a pass, and how some of them are cleared.
-use Rattle.std.specs.Prelude.{◌≡◌, ℕ, ◌<◌, Bool, true, false, nat_eq, ◌||◌, []}
+use Rattle.std.specs.Prelude.{◌≡◌, ◌⊎◌, ℕ, ◌<◌, Bool, true, false, nat_eq, ◌||◌, []}
 use Rattle.pp_rule.specs.declared.views.WalkSlot.{WalkSlot}
 use Rattle.pp_rule.specs.Views.{slot}
 use Rattle.pp_lists.specs.declared.own.ListOwn.{ListOwn}
@@ -48,3 +48,12 @@ pub record Cleared (a b c : ℕ) (q q' : ListPass) : Type 0 where
   pub lost : q.own.first < 5 → is_kept a b c q.own.first ≡ false → (slot q q.own.first).held ≡ true
       → (q'.own.first ≡ 5) × (q'.own.chain ≡ [])
   pub none : q.own.first ≡ 5 → q.own.chain ≡ [] → (q'.own.first ≡ 5) × (q'.own.chain ≡ [])
+
+-- what the pass holds it held before, in the same walk word
+abbrev pub HoldsNoMore : ListPass → ListPass → Type 0
+HoldsNoMore q q' = (j : ℕ) → j < 5 → (slot q' j).held ≡ true → ((slot q j).held ≡ true) × ((slot q' j).named ≡ (slot q j).named)
+
+-- but for the record n
+abbrev pub HoldsBut : ℕ → ListPass → ListPass → Type 0
+HoldsBut n q q' = (j : ℕ) → j < 5 → (slot q' j).held ≡ true
+    → ((slot q' j).named ≡ n) ⊎ (((slot q j).held ≡ true) × ((slot q' j).named ≡ (slot q j).named))

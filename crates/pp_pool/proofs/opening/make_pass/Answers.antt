@@ -27,7 +27,9 @@ invariant_of-result g c = let sentinels : ℕ = g.S.Shape.SENTINELS in let z = c
       c.requires.within c.requires.sentinels c.requires.number refl c.share_for-share.ensures refl
       (new_purse z (start_of sentinels z n) (share_of sentinels z n) c.args.first c.share_for-share.result c.args.room c.list_share.new.free
       c.requires.room c.list_share.ensures.numbers c.list_share.ensures.room c.requires.first c.share_for-share.ensures);
-  run = run_open g.S.Shape.SENTINELS g.S.Shape.first_head g.S.Shape.first_field g.S.Shape.caller_of c.args.seat _ c.requires.seat;
+  run = run_open g.S.Shape.SIDES g.S.Shape.SENTINELS g.S.Shape.first_head g.S.Shape.first_field g.S.Shape.addition g.S.Shape.fresh
+      g.S.Shape.caller_of c.args.sizes c.args.number c.args.seat g.met.S.Shape.sided.1 c.requires.within c.requires.sentinels
+      g.met.S.Shape.heads_open g.met.S.Shape.links_open g.met.S.Shape.opened c.requires.seat;
 }
 
 pub returns-clause-made : goal.returns-clause-made

@@ -52,7 +52,7 @@ returns-then-invalid-clause-came c = let z = c.args.pool.now.layout in let v = v
     (sym is) c.requires.holds) _ c.load_link-link.result
     (view c.load_link-link.new.pass.seat) u c.read-key.new.pass.keeping.pass.five c.load_link-link.ensures.loaded bad
     c.rest.ensures.cleared
-    c.rest.ensures.idles)
+    c.rest.ensures.idles refl)
 
 pub returns-then-key-key_for-clause-came : goal.returns-then-key-key_for-clause-came
 returns-then-key-key_for-clause-came c = let z = c.args.pool.now.layout in let v = view c.args.pass.now.seat in
@@ -81,7 +81,7 @@ returns-then-invalid-2-clause-came c = let z = c.args.pool.now.layout in let v =
     (end_broken z c.args.walk c.args.word v1
     (subst (λ (q : ListPass). Holds z q c.args.walk.call c.args.walk.anchor c.args.word) (sym is) c.requires.holds) _ c.end-link.result
     (view c.end-link.new.pass.seat) u c.end-link.ensures.ended bad c.rest-then-invalid-2.ensures.cleared
-    c.rest-then-invalid-2.ensures.idles)
+    c.rest-then-invalid-2.ensures.idles refl)
 
 pub returns-clause-came : goal.returns-clause-came
 returns-clause-came c = let z = c.args.pool.now.layout in let v = view c.args.pass.now.seat in

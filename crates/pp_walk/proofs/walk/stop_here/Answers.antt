@@ -1,5 +1,5 @@
 -- The record has no smaller key: it is gathered, or the walk ends there.
-use Rattle.std.proofs.Common.{◌≡◌, ◌≢◌, ◌<◌, ◌≤◌, ◌%◌, ◌^◌, ℕ, sym, ap, ◌∙◌, subst, arith}
+use Rattle.std.proofs.Common.{refl, ◌≡◌, ◌≢◌, ◌<◌, ◌≤◌, ◌%◌, ◌^◌, ℕ, sym, ap, ◌∙◌, subst, arith}
 use Rattle.pp_link.specs.Links.{bit, flag_bit, invalid_bit}
 use Rattle.pp_rule.specs.Views.{slot}
 use Rattle.pp_base.specs.Passes.{known, view}
@@ -18,7 +18,7 @@ returns-then-invalid-clause-came c = let bad : invalid_bit c.stop_at-link.result
     sym c.unpacked.ensures.invalid ∙ ap bit (sym c.invalid.ensures ∙ c.if-invalid.true) in
     stop_broken c.args.pool.now.layout c.args.walk c.args.word (view c.args.pass.now.seat) c.requires.holds _ c.stop_at-link.result
     (view c.stop_at-link.new.pass.seat) (view c.rest.new.pass.seat) c.stop_at-link.ensures.stopped bad c.rest.ensures.cleared
-    c.rest.ensures.idles
+    c.rest.ensures.idles refl
 
 pub returns-then-link-ne0-clause-came : goal.returns-then-link-ne0-clause-came
 returns-then-link-ne0-clause-came c = let ok : invalid_bit c.stop_at-link.result ≡ 0 =
