@@ -12,6 +12,7 @@ use Rattle.pp_queues.specs.Losses.{Tally, losing, striking, Ran}
 use Rattle.pp_queues.proofs.Counting.{ran_both}
 use Rattle.pp_queue.proofs.Running.{ran_idle, ran_is, ran_saw, ran_tried, ran_settled, ran_advanced, ran_read}
 use Rattle.pp_queue.proofs.calling.take_turn.Goals as goal
+use Rattle.pp_queue.proofs.Passing.{may_remove}
 
 pub returns-then-not-stand_at-clause-rest : goal.returns-then-not-stand_at-clause-rest
 returns-then-not-stand_at-clause-rest c = let pass = c.args.pass.now in let a = c.stand_at.new.pass in
@@ -345,3 +346,9 @@ returns-clause-steps c = λ n.
           c.value-taken.ensures.read)
           (c.let_go-2.ensures.steps s))),
     )
+
+pub remove_dummy-requires-clause-may : goal.remove_dummy-requires-clause-may
+remove_dummy-requires-clause-may c = may_remove c.args.pool.now.layout (view c.stand_at.new.pass.seat) (view c.see-last.new.pass.seat)
+    (view c.try_next-link.new.pass.seat) (known c.hold_next.new.pass.seat) c.args.first c.see-last.result c.try_next-link.result _ _
+    c.requires.two (c.stand_at.ensures.stands c.if-not-stand_at.false) c.requires.first c.see-last.ensures.saw c.if-last-first.false
+    c.try_next-link.ensures.tried c.if-empty.false (c.hold_next.ensures.holds c.if-not-hold_next.false)
