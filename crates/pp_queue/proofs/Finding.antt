@@ -6,6 +6,7 @@ use mathlib.Core.Logic.{dite}
 use Rattle.pp_link.specs.declared.layout.Sizes.{Sizes}
 use Rattle.pp_link.specs.Links.{target, invalid_bit}
 use Rattle.pp_link.specs.Places.{IsNumber, head_place, cell_place, walk_place}
+use Rattle.pp_rule.specs.Orders.{stores}
 use Rattle.pp_rule.specs.Steps.{MadeStep, MadeQuietStep, Confirmed}
 use Rattle.pp_rule.specs.Views.{slot}
 use Rattle.pp_rule.proofs.Made.{known_after}
@@ -181,3 +182,10 @@ module _ (z : Sizes) (one : z.passes ≡ 1) (two : z.heads ≡ 2) (v1 v2 : Queue
         dite (ℕ_discrete moved first)
         (λ e. ap (λ (q : QueuePass). q.own.behind) (known_after _ _ _ _ _ _ _ v3 v4 (a.same e)))
         (λ ne. absurd (ne (found_here v3 v4 (a.other ne) refl one3 low3 seen4 refl ∙ head_still)))
+
+-- what a load found stands there after it
+pub load_left : {kind place word : ℕ} {cs : List QueueChange} {ps : List QueuePlaced} {q : QueuePass} (v w : QueueView)
+    → MadeStep kind place word word cs ps q v w → q.sizes ≡ v.known.sizes → v.known.sizes.passes ≡ 1
+    → v.known.number < v.known.sizes.passes → HasSeenQueue w → stores kind ≡ false → word ≡ word_in w place
+load_left {place = place} v w made sizes one low seen loads = found_here v w made sizes one low seen loads
+    ∙ sym (ap (λ (ws : List ℕ). get_or ws place 0) (words_stay v w made sizes one low seen loads refl))
