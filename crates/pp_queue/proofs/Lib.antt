@@ -5,6 +5,9 @@ pub mod Handing
 pub mod Going
 pub mod Removing
 pub mod Turning
+pub mod Passing
+pub mod Standing
+pub mod Finding
 pub mod Putting
 pub mod Whole
 pub mod Running

@@ -1,5 +1,5 @@
 -- A put that took effect.
-use Rattle.std.proofs.Common.{◌≡◌, ◌≢◌, ◌⊎◌, inl, inr, ℕ, zero, suc, ◌+◌, ◌*◌, ◌<◌, ◌≤◌, true, List, [], ◌∷◌, ◌++◌, map}
+use Rattle.std.proofs.Common.{◌≡◌, ◌≢◌, ◌⊎◌, inl, inr, ℕ, zero, suc, ◌+◌, ◌*◌, ◌<◌, ◌≤◌, true, false, List, [], ◌∷◌, ◌++◌, map}
 use Rattle.std.proofs.Common.{length, refl, sym, ap, ◌∙◌, subst}
 use Rattle.std.proofs.Common.{arith, append_assoc, eq-eqb, ne_eqb, lt-ltb, length-append}
 use Rattle.std.proofs.Math.Decide.{ℕ_discrete}
@@ -178,9 +178,10 @@ tried_on z xs ys t = record {
 
 -- A put took effect in its last turn.
 pub put_after : (z : Sizes) (races v first n : ℕ) (u w x : QueueView) (a : Ran z.passes (losing 0 0) (losing first n) u w)
-    → 0 < length a.stepped.steps → PutStruck z first n w x → Struck (call.Put v) said.Put u x → n < races → PutDone z races v u x
+    → 0 < length a.stepped.steps → PutStruck z first n w x → Struck (call.Put v) said.Put u x → n < races
+    → (z.passes ≡ 1 → u.known.own.behind ≡ false → x.known.own.behind ≡ false) → PutDone z races v u x
 unfolding ran_both stepped_both
-put_after z races v first n u w x a real s struck few = record {
+put_after z races v first n u w x a real s struck few up = record {
   struck = struck;
   lost = n;
   few = few;
@@ -189,4 +190,5 @@ put_after z races v first n u w x a real s struck few = record {
   ran = ran_both z.passes (losing 0 0) (losing first n) s.counted u w x a s.ran;
   some = let long = length-append a.stepped.steps s.ran.stepped.steps in omega arith;
   tried = tried_later z a.stepped.steps s.ran.stepped.steps s.tried;
+  up = up;
 }

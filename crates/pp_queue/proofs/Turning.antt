@@ -68,7 +68,18 @@ goes_tried place n v w ne t = goes_made v w (t.some ne) record {
 }
 
 pub goes_advanced : (place first new n : ℕ) (v w : QueueView) → Advanced place first new n v w → GoesOn v w
-goes_advanced place first new n v w a = dite (ℕ_discrete n first) (λ e. goes_made v w (a.same e) (rest_self v.known))
+goes_advanced place first new n v w a = dite (ℕ_discrete n first)
+    (λ e. goes_made v w (a.same e) record {
+      number = refl;
+      sizes = refl;
+      owned = refl;
+      retired_are = refl;
+      frontier = refl;
+      chains = refl;
+      scan = refl;
+      going = refl;
+      start = refl;
+    })
     (λ ne. goes_made v w (a.other ne) (rest_self v.known))
 
 pub went_on : (v w : QueueView) → v.known.own.going ≡ true → GoesOn v w → WentOn v w

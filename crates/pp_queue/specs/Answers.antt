@@ -1,5 +1,5 @@
 -- What the turns of a call on a queue come to.
-use Rattle.std.specs.Prelude.{◌≡◌, ◌⊎◌, min, ℕ, ◌+◌, ◌*◌, ◌<◌, ◌≤◌, true, List, [], ◌∷◌, ◌++◌, length, Option, Some, None}
+use Rattle.std.specs.Prelude.{◌≡◌, ◌⊎◌, min, ℕ, ◌+◌, ◌*◌, ◌<◌, ◌≤◌, true, false, List, [], ◌∷◌, ◌++◌, length, Option, Some, None}
 use Rattle.std.specs.Prelude.{Result, Ok, Err}
 use Rattle.pp_link.specs.declared.layout.Sizes.{Sizes}
 use Rattle.pp_model.specs.declared.Lost.{Lost}
@@ -95,6 +95,8 @@ pub record GaveUp (passes turns races : ℕ) (before now : QueueView) : Type 0 w
   pub word : ℕ
   pub ran : Ran passes (losing 0 0) (losing word races) before now
   pub some : 0 < length ran.stepped.steps
+  -- to other callers
+  pub others : passes ≡ 1 → before.known.own.behind ≡ false → ⊥
 
 -- what a take was answered
 abbrev pub TakeSays : ℕ → ℕ → Result (Option ℕ) Lost → QueueView → QueueView → Type 0
@@ -112,6 +114,8 @@ pub record PutDone (z : Sizes) (races v : ℕ) (before now : QueueView) : Type 0
   pub ran : Ran z.passes (losing 0 0) counted before now
   pub some : 0 < length ran.stepped.steps
   pub tried : TriedToMove z ran.stepped.steps
+  -- where the pass is alone, it has moved head 1 on
+  pub up : z.passes ≡ 1 → before.known.own.behind ≡ false → now.known.own.behind ≡ false
 
 -- what a put was answered
 abbrev pub PutSays : Sizes → ℕ → ℕ → Result Unit Lost → QueueView → QueueView → Type 0

@@ -134,6 +134,12 @@ TurnedTo turn.Again before now = WentOn before now
 TurnedTo turn.Empty before now = SaidEmpty before now
 TurnedTo (turn.Took v) before now = TookOff v before now
 
+-- it isn't to begin again
+abbrev pub IsDone : TakeTurn → Type 0
+IsDone turn.Again = ⊥
+IsDone turn.Empty = Unit {0}
+IsDone (turn.Took v) = Unit {0}
+
 -- A call took effect at a step between, with this reply.
 pub record Struck (asked : QueueCall) (given : QueueReply) (before now : QueueView) : Type 0 where
   pub order : BeginsWith now.order before.order

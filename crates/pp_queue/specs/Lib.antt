@@ -1,4 +1,5 @@
 pub mod Steps
+pub mod Standing
 pub mod Calling
 pub mod Answers
 pub mod Passes

@@ -2,11 +2,13 @@
 
 ghost use Rattle.std.specs.Prelude.{◌≡◌, ◌≢◌, ◌+◌, ◌<◌, ◌≤◌, true, false, cond, nat_eq};
 ghost use Rattle.pp_link.specs.Links.{target, invalid_bit};
+ghost use Rattle.pp_link.specs.Places.{head_place, cell_place};
 ghost use Rattle.pp_rule.specs.Views.{slot, value_of};
 ghost use Rattle.pp_base.specs.Passes.{known, view, Fits, IsSame, IsAtRest};
 ghost use Rattle.pp_unlink.specs.Invalidation.{SameFree};
 ghost use Rattle.pp_queue.specs.Calling.{EmptyFrom, GoesOn, StandsAt, HoldsNext, IsHeadWord, MayRemove, TookOff, GoesFree};
-ghost use Rattle.pp_queue.specs.Calling.{TurnedTo, HasRecord, Struck, TakeRan, PutRan, SameLists};
+ghost use Rattle.pp_queue.specs.Standing.{word_in, StaysUp};
+ghost use Rattle.pp_queue.specs.Calling.{IsDone, TurnedTo, HasRecord, Struck, TakeRan, PutRan, SameLists};
 ghost use Rattle.pp_queues.specs.Losses.{Tally, losing, striking, Ran};
 ghost use Rattle.pp_pool.specs.Taken.{IsPrivate, IsPublished};
 ghost use Rattle.pp_queues.specs.declared.calls.QueueCall.TheVariants as call;
@@ -33,6 +35,11 @@ pub fn stand_at(pool: &Pool<QueueShape>, pass: &mut Pass<QueueShape>, head: u32,
     ensures on { GoesOn (view pass.old.seat) (view pass.new.seat) }
     ensures steps { (n : ℕ) → Ran pool.now.layout.passes (losing first n) (losing first (cond result n (n + 1)))
         (view pass.old.seat) (view pass.new.seat) }
+    ensures up { StaysUp (known pass.old.seat) (known pass.new.seat) }
+    ensures alone { pool.now.layout.passes ≡ 1 → first ≡ word_in (view pass.old.seat) (head_place pool.now.layout head)
+        → result ≡ true }
+    ensures there { pool.now.layout.passes ≡ 1 → result ≡ true
+        → word_in (view pass.new.seat) (head_place pool.now.layout head) ≡ first }
     ensures stands { result ≡ true → StandsAt (nat_eq head 0) (target first) (known pass.new.seat) }
     ensures away { result ≡ false → EmptyFrom 0 (known pass.new.seat) }
     ensures purse { pass.new.purse ≡ pass.old.purse }
@@ -56,6 +63,9 @@ pub fn hold_next(pool: &Pool<QueueShape>, pass: &mut Pass<QueueShape>, link: u64
     ensures on { GoesOn (view pass.old.seat) (view pass.new.seat) }
     ensures steps { (n : ℕ) → Ran pool.now.layout.passes (losing link n) (losing link (cond result n (n + 1)))
         (view pass.old.seat) (view pass.new.seat) }
+    ensures up { StaysUp (known pass.old.seat) (known pass.new.seat) }
+    ensures alone { pool.now.layout.passes ≡ 1
+        → link ≡ word_in (view pass.old.seat) (cell_place pool.now.layout (slot (known pass.old.seat) 0).named 2) → result ≡ true }
     ensures holds { result ≡ true → HoldsNext (target link) (known pass.old.seat) (known pass.new.seat) }
     ensures away { result ≡ false → StandsAt true (slot (known pass.old.seat) 0).named (known pass.new.seat) }
     ensures purse { pass.new.purse ≡ pass.old.purse }
@@ -75,6 +85,7 @@ pub fn let_go(pool: &Pool<QueueShape>, pass: &mut Pass<QueueShape>)
     requires others { EmptyFrom 2 (known pass.old.seat) }
     ensures same { IsSame pass.old.seat pass.new.seat }
     ensures on { GoesOn (view pass.old.seat) (view pass.new.seat) }
+    ensures up { StaysUp (known pass.old.seat) (known pass.new.seat) }
     ensures steps { (t : Tally) → Ran pool.now.layout.passes t t (view pass.old.seat) (view pass.new.seat) }
     ensures empty { EmptyFrom 0 (known pass.new.seat) }
     ensures purse { pass.new.purse ≡ pass.old.purse }
@@ -102,6 +113,8 @@ pub fn remove_dummy(
     ensures steps { (word n : ℕ) → Ran pool.now.layout.passes (losing word n) (cond result (striking word n) (losing
         word (n + 1)))
         (view pass.old.seat) (view pass.new.seat) }
+    ensures up { StaysUp (known pass.old.seat) (known pass.new.seat) }
+    ensures alone { pool.now.layout.passes ≡ 1 → (known pass.old.seat).own.going ≡ true → result ≡ true }
     ensures walk { (known pass.new.seat).walk ≡ (known pass.old.seat).walk }
     ensures rest { IsAtRest (known pass.new.seat) pass.new.purse }
     ensures purse { SameFree pass.old.purse pass.new.purse }
@@ -138,6 +151,9 @@ pub fn take_turn(pool: &Pool<QueueShape>, pass: &mut Pass<QueueShape>, first: u6
     requires empty { EmptyFrom 0 (known pass.old.seat) }
     ensures same { IsSame pass.old.seat pass.new.seat }
     ensures turned { TurnedTo result (view pass.old.seat) (view pass.new.seat) }
+    ensures up { StaysUp (known pass.old.seat) (known pass.new.seat) }
+    ensures alone { pool.now.layout.passes ≡ 1 → (known pass.old.seat).own.behind ≡ false
+        → first ≡ word_in (view pass.old.seat) (head_place pool.now.layout 0) → IsDone result }
     ensures steps { (n : ℕ) → TakeRan pool.now.layout.passes first n result (view pass.old.seat) (view pass.new.seat) }
     ensures empty { EmptyFrom 0 (known pass.new.seat) }
     ensures rest { IsAtRest (known pass.new.seat) pass.new.purse }
@@ -192,6 +208,9 @@ pub fn put_turn(
     ensures same { IsSame pass.old.seat pass.new.seat }
     ensures put { (v : ℕ) → HasRecord (known pass.old.seat) pass.old.purse number v → result ≡ true
         → Struck (call.Put v) said.Put (view pass.old.seat) (view pass.new.seat) }
+    ensures alone { pool.now.layout.passes ≡ 1 → (known pass.old.seat).own.behind ≡ false
+        → first ≡ word_in (view pass.old.seat) (head_place pool.now.layout 1)
+        → (result ≡ true) × ((known pass.new.seat).own.behind ≡ false) }
     ensures again { result ≡ false → GoesOn (view pass.old.seat) (view pass.new.seat) }
     ensures steps { (n : ℕ) → PutRan pool.now.layout first n result (view pass.old.seat) (view pass.new.seat) }
     ensures published { result ≡ true → IsPublished (known pass.new.seat) pass.new.purse number }

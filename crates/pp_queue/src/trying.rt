@@ -3,6 +3,7 @@
 ghost use Rattle.std.specs.Prelude.{◌≡◌, ℕ, ◌≤◌};
 ghost use Rattle.pp_base.specs.Passes.{known, view, Fits, IsSame, IsAtRest};
 ghost use Rattle.pp_unlink.specs.Invalidation.{SameFree};
+ghost use Rattle.pp_queue.specs.Standing.{StaysUp};
 ghost use Rattle.pp_queue.specs.Calling.{EmptyFrom, HasRecord, SameLists};
 ghost use Rattle.pp_queue.specs.Answers.{TakeSays, PutSays, PutLeaves};
 
@@ -28,6 +29,7 @@ pub fn take_value(
     requires empty { EmptyFrom 0 (known pass.old.seat) }
     requires races { 1 ≤ races }
     ensures same { IsSame pass.old.seat pass.new.seat }
+    ensures up { StaysUp (known pass.old.seat) (known pass.new.seat) }
     ensures says { TakeSays pool.now.layout.passes races result (view pass.old.seat) (view pass.new.seat) }
     ensures empty { EmptyFrom 0 (known pass.new.seat) }
     ensures rest { IsAtRest (known pass.new.seat) pass.new.purse }

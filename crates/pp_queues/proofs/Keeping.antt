@@ -26,10 +26,10 @@ use Rattle.pp_queues.specs.declared.calls.QueueChange.{QueueChange}
 use Rattle.pp_queues.specs.declared.calls.QueuePlaced.{QueuePlaced}
 use Rattle.pp_queues.specs.declared.own.QueueOwn.{QueueOwn}
 use Rattle.pp_queues.specs.Queue.{queue, items_of, IsSound, StandsIn}
-use Rattle.pp_queues.specs.Lines.{Heap, heap, Lined, Stood, Steady, Alike}
+use Rattle.pp_queues.specs.Lines.{Heap, heap, Lined, Stood, Sole, Still, Steady, Alike}
 use Rattle.pp_queues.specs.Queues.{QueuePass, QueueState, QueueStep, Calls, Queues, IsOwnStep, queue_forget}
 use Rattle.pp_model.proofs.Logs.{stands_grown}
-use Rattle.pp_queues.proofs.Lining.{is_used, lined_alike, steady_alike}
+use Rattle.pp_queues.proofs.Lining.{is_used, lined_alike, steady_alike, still_alike}
 
 module _ {E A W : Type 0} (z : Sizes) (words words' : List ℕ) (g g' : PoolState E A W) where
   pub alike_seen : SameSeen z words words' g g' → Alike z (heap z words g.status) (heap z words' g'.status)
@@ -126,6 +126,14 @@ module _ (z : Sizes) (t t' : Heap) (s : Steady z t t') (ok : ℕ → Type 0) (w 
       now : own.at < 5 → t'.status (w' own.at).named ≡ attached → t'.status (w own.at).named ≡ attached
       now lt st = ap t'.status (sym (name lt)) ∙ st
 
+-- what is true of the one pass stays
+pub sole_on : (t t' : Heap) → Still t t' → (ok : ℕ → Type 0) (w w' : ℕ → WalkSlot) → HoldsStill ok w w' → (own : QueueOwn)
+    → (own.at < 5 → ok own.at) → Stood t w own → Sole t w own → Sole t' w' own
+sole_on t t' s ok w w' h own is_ok st o = record {
+  last = λ e. s.back ∙ o.last e;
+  front = λ lt fr go. ap t'.status (h.named own.at lt (is_ok lt) (st.held lt)) ∙ s.on (w own.at).named (o.front lt fr go);
+}
+
 -- a call that stands nowhere
 pub stood_nowhere : (t : Heap) (w : ℕ → WalkSlot) (own : QueueOwn) → own.at ≡ 5 → Stood t w own
 stood_nowhere t w own e = record {
@@ -159,7 +167,8 @@ own_quiet order order' q all m i = own_more order q.step all (own_none q.step q.
 
 module _ (z : Sizes) (words words' : List ℕ) (g g' : QueueState) (b : Base 1 z words g) (b' : Base 1 z words' g') where
   -- a pass that is as it was, but for what it holds more
-  pub kept_pass : (log : List QueueChange) → (z.heads ≡ 2 → Steady z (heap z words g.status) (heap z words' g'.status)) → (p : ℕ)
+  pub kept_pass : (log : List QueueChange) → (z.heads ≡ 2 → Steady z (heap z words g.status) (heap z words' g'.status)
+      × Still (heap z words g.status) (heap z words' g'.status)) → (p : ℕ)
       → p < z.passes → SameOwn (g.of p) (g'.of p) → (mine : List QueuePlaced)
       → Calls z (heap z words g.status) log p (slot (g.of p)) (g.of p).own mine
       → Calls z (heap z words' g'.status) log p (slot (g'.of p)) (g'.of p).own mine
@@ -168,11 +177,13 @@ module _ (z : Sizes) (words words' : List ℕ) (g g' : QueueState) (b : Base 1 z
         stands = o.stands;
         since = o.since;
         earlier = o.earlier;
-        stood = λ two. stood_on z (heap z words g.status) (heap z words' g'.status) (s two) any_word (slot (g.of p))
+        stood = λ two. stood_on z (heap z words g.status) (heap z words' g'.status) (s two).0 any_word (slot (g.of p))
             (slot (g'.of p))
             (still_held (g.of p) (g'.of p) same.holds) (seen_held z words g b p lt) (seen_held z words' g' b' p lt) (g.of p).own
             (λ _. tt)
             (o.stood two);
+        sole = λ one two. sole_on (heap z words g.status) (heap z words' g'.status) (s two).1 any_word (slot (g.of p))
+            (slot (g'.of p)) (still_held (g.of p) (g'.of p) same.holds) (g.of p).own (λ _. tt) (o.stood two) (o.sole one two);
       }
 
   -- all that a queue adds after a quiet step, from what is true of each pass
@@ -198,7 +209,10 @@ module _ (z : Sizes) (words words' : List ℕ) (g g' : QueueState) (b : Base 1 z
   queues_alike_by a quiet passes l = let t : Heap = heap z words g.status in let t' : Heap = heap z words' g'.status in
       let log : List QueueChange = log_of g.order in
       queues_quiet l quiet (lined_alike z t t' l.at (items_of log) b.within.some_heads a l.lined)
-      (λ p lt. kept_pass log (λ two. steady_alike z t t' l.at (items_of log) two a l.lined) p lt (passes p lt)
+      (λ p lt. kept_pass log (λ two. (
+        steady_alike z t t' l.at (items_of log) two a l.lined,
+        still_alike z t t' l.at (items_of log) two a l.lined,
+      )) p lt (passes p lt)
       (placed_by p g.order) (l.each p lt))
 
   pub queues_alike : LooksSame z words words' g g' → Queues z words g → Queues z words' g'
@@ -212,7 +226,8 @@ module _ (z : Sizes) (words words' : List ℕ) (g g' : QueueState) (b : Base 1 z
   not_that a i f e = false≢true (sym f ∙ eq-eqb a i e)
 
   -- a pass that cleared its word i
-  cleared_pass : (log : List QueueChange) → (z.heads ≡ 2 → Steady z (heap z words g.status) (heap z words' g'.status)) → (p i : ℕ)
+  cleared_pass : (log : List QueueChange) → (z.heads ≡ 2 → Steady z (heap z words g.status) (heap z words' g'.status)
+      × Still (heap z words g.status) (heap z words' g'.status)) → (p i : ℕ)
       → p < z.passes → i < 5 → Clears queue_forget i (g.of p) (g'.of p) → (mine : List QueuePlaced)
       → Calls z (heap z words g.status) log p (slot (g.of p)) (g.of p).own mine
       → Calls z (heap z words' g'.status) log p (slot (g'.of p)) (g'.of p).own mine
@@ -221,6 +236,7 @@ module _ (z : Sizes) (words words' : List ℕ) (g g' : QueueState) (b : Base 1 z
     since = o.since;
     earlier = o.earlier;
     stood = λ two. stood_at two (eqb own.at i) refl;
+    sole = λ one two. sole_at one two (eqb own.at i) refl;
   }
     where
       own : QueueOwn
@@ -247,14 +263,26 @@ module _ (z : Sizes) (words words' : List ℕ) (g g' : QueueState) (b : Base 1 z
 
       stood_at : z.heads ≡ 2 → (hit : Bool) → eqb own.at i ≡ hit → Stood t' w' (record own { at = cond hit 5 own.at })
       stood_at two true e = stood_nowhere t' w' (record own { at = 5 }) refl
-      stood_at two false e = stood_on z t t' (s two)
+      stood_at two false e = stood_on z t t' (s two).0
           (λ j. j ≢ i) w w' stays (seen_held z words g b p lt) (seen_held z words' g' b' p lt)
           own (λ _. not_that own.at i e) (o.stood two)
+
+      sole_at : z.passes ≡ 1 → z.heads ≡ 2 → (hit : Bool) → eqb own.at i ≡ hit
+          → Sole t' w' (record own { at = cond hit 5 own.at })
+      sole_at one two true e = record {
+        last = λ up. (s two).1.back ∙ (o.sole one two).last up;
+        front = λ bad. absurd (omega arith);
+      }
+      sole_at one two false e = sole_on t t' (s two).1 (λ j. j ≢ i) w w' stays own (λ _. not_that own.at i e)
+          (o.stood two) (o.sole one two)
 
   pub queues_cleared : (p i : ℕ) → Cleared queue_forget z words words' g g' p i → Queues z words g → Queues z words' g'
   queues_cleared p i c l = let t : Heap = heap z words g.status in let t' : Heap = heap z words' g'.status in
       let a = alike_seen z words words' g g' c.seen in let log : List QueueChange = log_of g.order in
-      let s = λ (two : z.heads ≡ 2). steady_alike z t t' l.at (items_of log) two a l.lined in
+      let s : z.heads ≡ 2 → Steady z t t' × Still t t' = λ two. (
+        steady_alike z t t' l.at (items_of log) two a l.lined,
+        still_alike z t t' l.at (items_of log) two a l.lined,
+      ) in
       queues_quiet l c.seen.order (lined_alike z t t' l.at (items_of log) b.within.some_heads a l.lined)
       (λ r lt. dite (ℕ_discrete r p)
       (λ e. subst (λ (r : ℕ). Calls z t' log r (slot (g'.of r)) (g'.of r).own (placed_by r g.order)) (sym e)
@@ -264,7 +292,7 @@ module _ (z : Sizes) (words words' : List ℕ) (g g' : QueueState) (b : Base 1 z
 -- A step of the pass q at which these changes, of its own, took effect, or none.
 module _ (z : Sizes) (words words' : List ℕ) (g : QueueState) (q q' : QueuePass) (status' : ℕ → RecordState) (e : QueueStep)
     (at' : ℕ → ℕ) where
-  pub queues_changed : Base 1 z words g → Queues z words g → e.entry.pass ≡ q.number
+  pub queues_changed : Base 1 z words g → Queues z words g → q.number < z.passes → e.entry.pass ≡ q.number
       → ((c : QueueChange) → IsIn c e.entry.changes → c.caller ≡ q.number) → AtEach e.entry.changes (λ k c. c.caller ≡ q.number)
       → q'.number ≡ q.number → IsSound (log_of g.order ++ e.entry.changes)
       → Lined z (heap z words' status') at' (items_of (log_of g.order ++ e.entry.changes))
@@ -274,7 +302,7 @@ module _ (z : Sizes) (words words' : List ℕ) (g : QueueState) (q q' : QueuePas
       → Calls z (heap z words' status') (log_of g.order ++ e.entry.changes) q.number (slot q') q'.own
       (placed_by q.number (g.order ++ e ∷ []))
       → Queues z words' (after_step g q' status' e)
-  queues_changed b l own_pass caller callers number sound lined longer steady used mine =
+  queues_changed b l pass own_pass caller callers number sound lined longer steady used mine =
       let log : List QueueChange = log_of g.order in let t : Heap = heap z words g.status in
       let t' : Heap = heap z words' status' in
       let cs : List QueueChange = e.entry.changes in
@@ -302,5 +330,6 @@ module _ (z : Sizes) (words words' : List ℕ) (g : QueueState) (q q' : QueuePas
                   (λ i li h. let y = b.hazards.held r i lr li h in
                   (y.number, used (slot (g.of r) i).named y.used)) (g.of r).own (λ _. tt)
                   (o.stood two);
+              sole = λ one _. absurd (other (omega arith));
             }) p lt);
       }

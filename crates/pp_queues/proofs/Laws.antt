@@ -88,6 +88,12 @@ queue_opened z g within low b o = let words : List ℕ = opening_words 1 queue_h
             since = λ bad. absurd (false≢true bad);
             earlier = λ bad. absurd (false≢true bad);
             stood = λ two. stood_nowhere (heap z words g.status) (slot (g.of p)) nobody refl;
+            sole = λ _ two. record {
+              last = λ _. let led : head_word words z 1 ≡ 16 = opening_head 1 queue_head queue_field z 1 (omega arith) in
+                  ap (λ (h : ℕ). target (cell_word words z (target h) 2)) led
+                  ∙ ap target (opening_field 1 queue_head queue_field z 1 2 (omega arith) (omega arith) (omega arith));
+              front = λ bad. absurd (omega arith);
+            };
           }));
     }
   where

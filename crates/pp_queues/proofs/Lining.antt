@@ -9,7 +9,7 @@ use Rattle.pp_link.specs.Links.{target}
 use Rattle.pp_link.specs.Places.{IsNumber}
 use Rattle.pp_rule.specs.States.{RecordState, attached, IsUsed}
 use Rattle.pp_rule.proofs.Put.{put, put_here, put_else}
-use Rattle.pp_queues.specs.Lines.{Heap, Lined, Steady, Alike, Appended, Moved, Removed}
+use Rattle.pp_queues.specs.Lines.{Heap, Lined, Steady, Still, Alike, Appended, Moved, Removed}
 
 pub is_used : (s : RecordState) → s ≡ attached → IsUsed s
 is_used s e = subst IsUsed (sym e) tt
@@ -49,15 +49,8 @@ module _ (z : Sizes) (t t' : Heap) where
     back = λ two. let b = l.back two in (b.0, (b.1.0, b.1.1, a.heads 1 (omega arith) ∙ b.1.2));
   }
 
-  pub steady_alike : (at : ℕ → ℕ) (items : List ℕ) → z.heads ≡ 2 → Alike z t t' → Lined z t at items → Steady z t t'
-  steady_alike at items two a l = record {
-    next = λ n is_n u u' some. ⊎_elim (λ (e : t'.link n ≡ t.link n). ap target e)
-        (λ (y : (t'.status n ≢ attached) × (target (t'.link n) ≡ target (t.link n)) × (t'.link n ≢ 0)). y.1) (a.links n is_n u');
-    was = λ n is_n u st. a.was n st;
-    front = λ n is_n st st' e. a.heads 0 (omega arith) ∙ e;
-    past = λ n is_n st st' e ne same. ne (sym (a.heads 1 (omega arith)) ∙ same);
-    back = λ n is_n st st' ne same. ne (sym (back_same) ∙ same);
-  }
+  pub still_alike : (at : ℕ → ℕ) (items : List ℕ) → z.heads ≡ 2 → Alike z t t' → Lined z t at items → Still t t'
+  still_alike at items two a l = record { back = back_same; on = a.on }
     where
       back_same : target (t'.link (target (t'.head 1))) ≡ target (t.link (target (t.head 1)))
       back_same = let b = l.back two in let i : ℕ = b.0 in let y = l.each i b.1.0 in
@@ -65,6 +58,16 @@ module _ (z : Sizes) (t t' : Heap) where
           ap (λ (h : ℕ). target (t'.link (target h))) (a.heads 1 (omega arith))
           ∙ (ap (λ (n : ℕ). target (t'.link n)) led
           ∙ (ap target (alike_link a (at i) y.0 y.1) ∙ ap (λ (n : ℕ). target (t.link n)) (sym led)))
+
+  pub steady_alike : (at : ℕ → ℕ) (items : List ℕ) → z.heads ≡ 2 → Alike z t t' → Lined z t at items → Steady z t t'
+  steady_alike at items two a l = record {
+    next = λ n is_n u u' some. ⊎_elim (λ (e : t'.link n ≡ t.link n). ap target e)
+        (λ (y : (t'.status n ≢ attached) × (target (t'.link n) ≡ target (t.link n)) × (t'.link n ≢ 0)). y.1) (a.links n is_n u');
+    was = λ n is_n u st. a.was n st;
+    front = λ n is_n st st' e. a.heads 0 (omega arith) ∙ e;
+    past = λ n is_n st st' e ne same. ne (sym (a.heads 1 (omega arith)) ∙ same);
+    back = λ n is_n st st' ne same. ne (sym (still_alike at items two a l).back ∙ same);
+  }
 
 -- 16 times a number tells the number
 pub times_once : (n m : ℕ) → 16 * n ≡ 16 * m → n ≡ m
@@ -220,6 +223,11 @@ module _ (z : Sizes) (t t' : Heap) (at : ℕ → ℕ) (items : List ℕ) (n m : 
     back = λ _. (length items, (omega arith, omega arith, v.to ∙ ap (λ (k : ℕ). 16 * k) (sym moved_last.1.2)));
   }
 
+  -- head 1 leads to the last record then
+  pub moved_to_end : t'.link (target (t'.head 1)) ≡ 0
+  moved_to_end = let led : target (t'.head 1) ≡ m = leads_to (t'.head 1) m v.to in ap t'.link (led ∙ sym moved_last.1.2)
+      ∙ (v.links (at (length items)) (l.each (length items) (omega arith)).0 ∙ l.last)
+
   pub steady_moved : Steady z t t'
   steady_moved = record {
     next = λ k is_k u u' some. ap target (v.links k is_k);
@@ -229,9 +237,7 @@ module _ (z : Sizes) (t t' : Heap) (at : ℕ → ℕ) (items : List ℕ) (n m : 
         let dummy : at 0 ≡ k = times_once (at 0) k (sym l.front ∙ e) in let end : m ≡ k = times_once m k (sym v.to ∙ same) in
         let bad : length items ≡ 0 = l.once (length items) 0 (omega arith) (omega arith) (y.1.2 ∙ (end ∙ sym dummy)) in
         absurd (omega arith);
-    back = λ k is_k st st' ne same. let one = is_k.0 in let led : target (t'.head 1) ≡ m = leads_to (t'.head 1) m v.to in
-        let end : t'.link (target (t'.head 1)) ≡ 0 = ap t'.link (led ∙ sym moved_last.1.2)
-        ∙ (v.links (at (length items)) (l.each (length items) (omega arith)).0 ∙ l.last) in absurd (omega arith);
+    back = λ k is_k st st' ne same. let one = is_k.0 in let end = moved_to_end in absurd (omega arith);
   }
 
 -- The dummy is detached.
@@ -303,19 +309,20 @@ module _ (z : Sizes) (t t' : Heap) (at : ℕ → ℕ) (items : List ℕ) (n m : 
       after : (i : ℕ) → i ≢ 0 → length items ≤ i + 1 → length items ≡ length rest + 1 → length rest ≤ prev i + 1
       after i ne ge long = let e = prev_next i ne in omega arith
 
+  -- where head 1 leads, the link is as it was
+  pub removed_back : target (t'.link (target (t'.head 1))) ≡ target (t.link (target (t.head 1)))
+  removed_back = let b = l.back r.two in ap (λ (h : ℕ). target (t'.link (target h))) r.back
+      ∙ ap target (r.links (target (t.head 1)) (subst (IsNumber z) (sym (leads_to (t.head 1) (at b.0) b.1.2))
+      (l.each b.0 b.1.0).0))
+
   pub steady_removed : Steady z t t'
   steady_removed = record {
     next = λ k is_k u u' some. ap target (r.links k is_k);
     was = λ k is_k u st. sym (r.others k (λ e. r.gone (ap t'.status (sym e) ∙ st))) ∙ st;
     front = λ k is_k st st' e. absurd (r.gone (ap t'.status (times_once n k (sym r.from ∙ e)) ∙ st'));
     past = λ k is_k st st' e ne same. r.gone (ap t'.status (times_once n k (sym r.from ∙ e)) ∙ st');
-    back = λ k is_k st st' ne same. ne (sym now ∙ same);
+    back = λ k is_k st st' ne same. ne (sym removed_back ∙ same);
   }
-    where
-      now : target (t'.link (target (t'.head 1))) ≡ target (t.link (target (t.head 1)))
-      now = let b = l.back r.two in ap (λ (h : ℕ). target (t'.link (target h))) r.back
-          ∙ ap target (r.links (target (t.head 1)) (subst (IsNumber z) (sym (leads_to (t.head 1) (at b.0) b.1.2))
-          (l.each b.0 b.1.0).0))
 
 -- What a load finds.
 module _ (z : Sizes) (t : Heap) (at : ℕ → ℕ) (items : List ℕ) (l : Lined z t at items) where

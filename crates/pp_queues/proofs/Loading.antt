@@ -36,13 +36,13 @@ use Rattle.pp_queues.specs.declared.calls.QueuePlaced.{QueuePlaced}
 use Rattle.pp_queues.specs.declared.own.QueueOwn.{QueueOwn}
 use Rattle.pp_model.specs.Objects.{after}
 use Rattle.pp_queues.specs.Queue.{queue, reply, placed, items_of, IsSound, StandsIn}
-use Rattle.pp_queues.specs.Lines.{Heap, heap, Lined, Stood}
+use Rattle.pp_queues.specs.Lines.{Heap, heap, Lined, Stood, Sole}
 use Rattle.pp_queues.specs.Queues.{QueuePass, QueueState, QueueStep, QueueView, Calls, Queues}
 use Rattle.pp_queues.specs.Turns.{StandsThen, empty_step, with_own, stand, beginning, resting, leading, passed, IsLoaded}
 use Rattle.pp_queues.specs.Turns.{IsEnd, Begins, Ends, end_number, standing, Came}
 use Rattle.pp_queues.specs.Turns.{Saw, Looked, Settled, Tried}
 use Rattle.pp_model.proofs.Logs.{fits_within, stands_unchanged, after_all}
-use Rattle.pp_queues.proofs.Lining.{not_before_own, none_behind, nowhere_plain, leads_to}
+use Rattle.pp_queues.proofs.Lining.{not_before_own, none_behind, nowhere_plain, leads_to, times_once}
 use Rattle.pp_queues.proofs.Keeping.{own_more, own_none, stood_nowhere, queues_alike}
 use Rattle.pp_queues.proofs.Telling.{log_quiet}
 
@@ -134,14 +134,16 @@ module _ (z : Sizes) (words : List ℕ) (g : QueueState) (q : QueuePass) (b : Ba
   -- a call with other things known of where it stands
   pub calls_with : (own : QueueOwn) → own.going ≡ q.own.going → own.start ≡ q.own.start
       → (z.heads ≡ 2 → Stood (heap z words g.status) (slot q) own)
+      → (z.passes ≡ 1 → z.heads ≡ 2 → Sole (heap z words g.status) (slot q) own)
       → Calls z (heap z words g.status) (log_of g.order) q.number (slot q) own (placed_by q.number g.order ++ [])
-  calls_with own going start stood = let o = calls_of in
+  calls_with own going start stood sole = let o = calls_of in
       subst (λ (mine : List QueuePlaced). Calls z (heap z words g.status) (log_of g.order) q.number (slot q) own mine)
       (sym (append-nil (placed_by q.number g.order))) record {
         stands = o.stands;
         since = λ go. let le = o.since (sym going ∙ go) in let s = start in omega arith;
         earlier = λ go i x at. let le = o.earlier (sym going ∙ go) i x at in let s = start in omega arith;
         stood = stood;
+        sole = sole;
       }
 
   module _ (opens : Sizes → List ℕ) (v : QueueView) (known_is : v.known ≡ q) (sizes : q.sizes ≡ z) (kind place : ℕ)
@@ -193,6 +195,7 @@ module _ (z : Sizes) (words : List ℕ) (g : QueueState) (q : QueuePass) (b : Ba
             past = st.past;
             back = st.back;
           };
+          sole = λ one two. record { last = (o.sole one two).last; front = λ _ _ bad. absurd (false≢true bad) };
         } in record {
           known = known;
           status = g.status;
@@ -288,7 +291,7 @@ module _ (opens : Sizes → List ℕ) where
       allows 1 opens Queues z slots id place load_step me (λ n. n) (λ n. n) (λ n m'. (m'.1 ≡ []) × Begins place n me.0 m'.0) lone
       (λ n _. refl) (λ n bad. absurd (false≢true bad)) (λ n _. refl)
       (λ words g b add pass is sizes fits. let n : ℕ = get_or words place 0 in let log : List QueueChange = log_of g.order in
-      let o = calls_of z words g q b add pass is in let own : QueueOwn = beginning (length log) in
+      let o = calls_of z words g q b add pass is in let own : QueueOwn = beginning (length log) q.own in
       plays_as (λ m'. (m'.1 ≡ []) × (MadeQuietStep load_step place n n (with_own own q) me.0 m'.0 ×
       (log_of m'.0.order ≡ log_of g.order)))
       (λ m'. (m'.1 ≡ []) × Begins place n me.0 m'.0)
@@ -299,12 +302,13 @@ module _ (opens : Sizes → List ℕ) where
         since = λ _. omega arith;
         earlier = λ _ i x at. fits_within queue log q.number (i + 1) x (o.stands.each i x at);
         stood = λ _. stood_nowhere (heap z words g.status) (slot q) own refl;
+        sole = λ one two. record { last = (o.sole one two).last; front = λ bad. absurd (omega arith) };
       }))
       (λ w y. (
         y.0,
         record {
           end = end_of z words g q add sizes two true place at;
-          made = subst (λ (l : List QueueChange). MadeQuietStep load_step place n n (with_own (beginning (length l)) q) me.0 w)
+          made = subst (λ (l : List QueueChange). MadeQuietStep load_step place n n (with_own (beginning (length l) q.own) q) me.0 w)
               (sym y.1.1) y.1.0;
         },
       )))
@@ -369,6 +373,12 @@ module _ (opens : Sizes → List ℕ) where
                     (items_of (log_of g.order)) add.lined two t (leads.1.1.1 fr ∙ ap (λ (k : ℕ). 16 * k) (sym led)) to.0),
               ),
             );
+        sole = λ one two. record {
+          last = (o.sole one two).last;
+          front = λ _ fr _. ap g.status (ap (λ (v : WalkSlot). v.named) here_is
+              ∙ (led ∙ sym (times_once (add.at 0) leads.0 (sym add.lined.front ∙ leads.1.1.0 fr))))
+              ∙ (add.lined.each 0 (omega arith)).1;
+        };
       } in record {
         known = known;
         status = g.status;
@@ -439,7 +449,7 @@ module _ (opens : Sizes → List ℕ) where
         front = st.front;
         past = λ _ _ _ _ same. ne (head_at z words 1 place at ∙ same);
         back = st.back;
-      })))
+      }) (λ one two. record { last = (o.sole one two).last; front = (o.sole one two).front })))
       (λ w y. (y.0, record { end = end; here = λ hit. absurd (ne hit); elsewhere = λ _. y.1.0 }))))
 
   -- The load of the link where the call stands, whose target is known from then on.
@@ -458,7 +468,7 @@ module _ (opens : Sizes → List ℕ) where
         front = st.front;
         past = st.past;
         back = st.back;
-      }))
+      }) (λ one two. record { last = (o.sole one two).last; front = (o.sole one two).front }))
 
   -- a link that leads nowhere has no bits
   plain_at : (z : Sizes) (words : List ℕ) (g : QueueState) (q : QueuePass) → Base 1 z words g → Queues z words g

@@ -33,8 +33,8 @@ use Rattle.pp_queues.specs.declared.own.QueueOwn.{QueueOwn}
 use Rattle.pp_queues.specs.Queue.{items_of, IsSound}
 use Rattle.pp_queues.specs.Lines.{Heap, heap, Lined, Stood, Steady, Moved}
 use Rattle.pp_queues.specs.Queues.{QueuePass, QueueState, QueueStep, QueueView, Calls, Queues}
-use Rattle.pp_queues.specs.Turns.{advance_step, stand, MayAdvance, Advanced}
-use Rattle.pp_queues.proofs.Lining.{moved_last, lined_moved, steady_moved, leads_to}
+use Rattle.pp_queues.specs.Turns.{advance_step, with_own, caught_up, stand, MayAdvance, Advanced}
+use Rattle.pp_queues.proofs.Lining.{moved_last, lined_moved, steady_moved, moved_to_end, leads_to}
 use Rattle.pp_queues.proofs.Keeping.{stood_on, any_word, SeenHeld, queues_changed}
 use Rattle.pp_queues.proofs.Loading.{alike, calls_of, held_of, head_at, same_own_base}
 
@@ -107,37 +107,40 @@ module _ (z : Sizes) (words : List ℕ) (g : QueueState) (q : QueuePass) (place 
             (subst (λ (k : ℕ). g.status k ≡ attached) last.1.2 y.1);
       }
 
+  -- the pass after it
+  abbrev pub after_move : QueuePass
+  after_move = with_own (caught_up q.own) q
+
   abbrev pub advance_entry : QueueStep
-  advance_entry = entry advance_step place (get_or words place 0) new [] [] g.order q
+  advance_entry = entry advance_step place (get_or words place 0) new [] [] g.order after_move
 
-  same_pass : SameBase q q
-  same_pass = record {
-    rest = record { number = refl; sizes = refl; retired_are = refl; walk = refl; frontier = refl; chains = refl; scan = refl };
-    owned = refl;
-  }
+  pub base_moved : Base 1 z (set words place new) (after_step g after_move g.status advance_entry)
+  base_moved = base_relinked 1 z words g q after_move place new advance_entry b pass is (same_own_base (caught_up q.own) q) relinks
 
-  pub base_moved : Base 1 z (set words place new) (after_step g q g.status advance_entry)
-  base_moved = base_relinked 1 z words g q q place new advance_entry b pass is same_pass relinks
-
-  pub queues_moved : Queues z (set words place new) (after_step g q g.status advance_entry)
+  pub queues_moved : Queues z (set words place new) (after_step g after_move g.status advance_entry)
   queues_moved = let t : Heap = heap z words g.status in let t' : Heap = heap z (set words place new) g.status in
       let log : List QueueChange = log_of g.order in let o = calls_of z words g q b l pass is in
       let steady = steady_moved z t t' l.at items (stand q) q.own.next l.lined moves in
       let none : log ++ [] ≡ log = append-nil log in
-      queues_changed z words (set words place new) g q q g.status advance_entry l.at b l refl (λ c i. absurd (in_nil c i))
+      queues_changed z words (set words place new) g q after_move g.status advance_entry l.at b l pass refl (λ c i. absurd (in_nil c i))
       (λ k c e. cc) refl
       (subst IsSound (sym none) l.sound)
       (subst (λ (log : List QueueChange). Lined z t' l.at (items_of log)) (sym none)
       (lined_moved z t t' l.at items (stand q) q.own.next l.lined moves))
       (let e = ap (λ (l : List QueueChange). length l) none in omega arith) (λ _. steady) (λ n u. u)
-      (subst (λ (log : List QueueChange). Calls z t' log q.number (slot q) q.own
+      (subst (λ (log : List QueueChange). Calls z t' log q.number (slot q) after_move.own
       (placed_by q.number (g.order ++ advance_entry ∷ []))) (sym none)
-      (subst (λ (mine : List QueuePlaced). Calls z t' log q.number (slot q) q.own mine)
+      (subst (λ (mine : List QueuePlaced). Calls z t' log q.number (slot q) after_move.own mine)
       (sym (placed_here g.order advance_entry ∙ append-nil (placed_by q.number g.order))) record {
         stands = o.stands;
         since = o.since;
         earlier = o.earlier;
-        stood = λ two. stood_after z words (set words place new) g g.status q b l pass is two steady (λ n u. u);
+        stood = λ two. let st = stood_after z words (set words place new) g g.status q b l pass is two steady (λ n u. u) in
+            record { held = st.held; next = st.next; front = st.front; past = st.past; back = st.back };
+        sole = λ one two. record {
+          last = λ _. ap target (moved_to_end z t t' l.at items (stand q) q.own.next l.lined moves);
+          front = (o.sole one two).front;
+        };
       }))
 
 module _ (opens : Sizes → List ℕ) where
@@ -165,7 +168,7 @@ module _ (opens : Sizes → List ℕ) where
       (λ e. subst (λ (hit : Bool). Plays 1 opens Queues (cond hit advance_step missed_step) place n
       (either hit new n) z words g me.0 (then n))
       (sym (eq-eqb n first e)) record {
-        known = q;
+        known = with_own (caught_up q.own) q;
         status = g.status;
         changes = [];
         placed = [];

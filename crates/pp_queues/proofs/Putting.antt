@@ -175,7 +175,7 @@ module _ (z : Sizes) (words : List ℕ) (g : QueueState) (q : QueuePass) (i : �
       let st = stood_after z words (set words place new) g status_after q b l pass is may.two steady used in
       queues_changed z words (set words place new) g q after_link status_after link_entry
       (at_more z t t' l.at items (stand q) d.number v may.two l.lined appends held.used value_d not_before)
-      b l refl (λ c i. ap (λ (c : QueueChange). c.caller) (sym (in_one c change i)))
+      b l pass refl (λ c i. ap (λ (c : QueueChange). c.caller) (sym (in_one c change i)))
       (only_change (λ (c : QueueChange). c.caller ≡ q.number) change refl) refl
       (sound_change queue log change l.sound refl)
       (subst (λ (items : List ℕ). Lined z t' (at_more z t t' l.at (items_of log)
@@ -196,6 +196,7 @@ module _ (z : Sizes) (words : List ℕ) (g : QueueState) (q : QueuePass) (i : �
           past = st.past;
           back = st.back;
         };
+        sole = λ _ _. record { last = λ bad. absurd (false≢true (sym bad)); front = λ _ _ bad. absurd (false≢true bad) };
       }
 
 module _ (opens : Sizes → List ℕ) where

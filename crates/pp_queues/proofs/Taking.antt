@@ -42,6 +42,7 @@ use Rattle.pp_queues.specs.Queues.{QueuePass, QueueState, QueueStep, QueueView, 
 use Rattle.pp_queues.specs.Turns.{StandsThen, take_step, stand, resting, change_at, placed_at, MayTake, taken, Took}
 use Rattle.pp_model.proofs.Logs.{stands_change, sound_change, contents_push}
 use Rattle.pp_queues.proofs.Lining.{is_used, some_value, was_dummy, was_next, first_value, lined_removed, steady_removed}
+use Rattle.pp_queues.proofs.Lining.{removed_back}
 use Rattle.pp_queues.proofs.Lining.{leads_to, times_once}
 use Rattle.pp_queues.proofs.Keeping.{queues_changed}
 use Rattle.pp_queues.proofs.Loading.{alike, calls_of, held_of, head_at}
@@ -244,7 +245,7 @@ module _ (z : Sizes) (words : List ℕ) (g : QueueState) (q : QueuePass) (j guar
       (λ e. subst IsUsed (sym (ap status_after e ∙ gone)) tt) (λ ne. subst IsUsed (sym (others n ne)) u) in
       let st = stood_after z words (set words place new) g status_after q b l pass is may.two steady used in
       queues_changed z words (set words place new) g q after_take status_after take_entry (λ i. l.at (i + 1))
-      b l refl (λ c i. ap (λ (c : QueueChange). c.caller) (sym (in_one c change i)))
+      b l pass refl (λ c i. ap (λ (c : QueueChange). c.caller) (sym (in_one c change i)))
       (only_change (λ (c : QueueChange). c.caller ≡ q.number) change refl) refl
       (sound_change queue log change l.sound (ap changes right))
       (subst (λ (items : List ℕ). Lined z t' (λ i. l.at (i + 1)) items) (sym now)
@@ -257,6 +258,10 @@ module _ (z : Sizes) (words : List ℕ) (g : QueueState) (q : QueuePass) (j guar
         since = λ bad. absurd (false≢true bad);
         earlier = λ bad. absurd (false≢true bad);
         stood = λ _. record { held = st.held; next = st.next; front = st.front; past = st.past; back = st.back };
+        sole = λ one two. record {
+          last = λ up. removed_back z t t' l.at items dummy behind l.lined removes ∙ (o.sole one two).last up;
+          front = λ _ _ bad. absurd (false≢true bad);
+        };
       }
 
 module _ (opens : Sizes → List ℕ) where

@@ -53,7 +53,19 @@ pub record Stood (t : Heap) (w : ℕ → WalkSlot) (own : QueueOwn) : Type 0 whe
   pub back : own.at < 5 → own.front ≡ false → t.status (w own.at).named ≡ attached
       → target (t.link (target (t.head 1))) ≢ (w own.at).named
 
--- What a step leaves of that.
+-- What is true beside where a pool has one pass.
+pub record Sole (t : Heap) (w : ℕ → WalkSlot) (own : QueueOwn) : Type 0 where
+  -- but after a linking exchange of its own head 1 leads to the last record
+  pub last : own.behind ≡ false → target (t.link (target (t.head 1))) ≡ 0
+  -- the dummy of a take that is going on is still attached
+  pub front : own.at < 5 → own.front ≡ true → own.going ≡ true → t.status (w own.at).named ≡ attached
+
+-- what a step leaves of that, where it neither links nor detaches a record
+pub record Still (t t' : Heap) : Type 0 where
+  pub back : target (t'.link (target (t'.head 1))) ≡ target (t.link (target (t.head 1)))
+  pub on : (n : ℕ) → t.status n ≡ attached → t'.status n ≡ attached
+
+-- What a step leaves of where a call stands.
 pub record Steady (z : Sizes) (t t' : Heap) : Type 0 where
   pub next : (n : ℕ) → IsNumber z n → IsUsed (t.status n) → IsUsed (t'.status n) → target (t.link n) ≢ 0
       → target (t'.link n) ≡ target (t.link n)

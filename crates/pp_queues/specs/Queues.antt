@@ -16,7 +16,7 @@ use Rattle.pp_queues.specs.declared.calls.QueueChange.{QueueChange}
 use Rattle.pp_queues.specs.declared.calls.QueuePlaced.{QueuePlaced}
 use Rattle.pp_queues.specs.declared.own.QueueOwn.{QueueOwn}
 use Rattle.pp_queues.specs.Queue.{items_of, IsSound, StandsIn}
-use Rattle.pp_queues.specs.Lines.{Heap, heap, Lined, Stood}
+use Rattle.pp_queues.specs.Lines.{Heap, heap, Lined, Stood, Sole}
 
 abbrev pub QueuePass : Type 0
 QueuePass = PassState QueueOwn
@@ -39,6 +39,8 @@ pub record Calls (z : Sizes) (t : Heap) (log : List QueueChange) (p : ℕ) (w : 
   -- the calls before it have their places up to its start
   pub earlier : own.going ≡ true → (i : ℕ) (x : QueuePlaced) → slice_get mine i ≡ Some x → x.place ≤ own.start
   pub stood : z.heads ≡ 2 → Stood t w own
+  -- and of the one pass of a pool
+  pub sole : z.passes ≡ 1 → z.heads ≡ 2 → Sole t w own
 
 -- the changes of this step are those of its pass
 abbrev pub IsOwnStep : QueueStep → Type 0
@@ -68,7 +70,7 @@ queue_forget i own = record own { at = cond (nat_eq own.at i) 5 own.at }
 
 -- a pass without a call
 abbrev pub nobody : QueueOwn
-nobody = record { going = false; start = 0; at = 5; front = false; next = 0; past = false }
+nobody = record { going = false; start = 0; at = 5; front = false; next = 0; past = false; behind = false }
 
 -- a dummy alone, which this word leads on from
 abbrev pub dummy_chain : ℕ → ℕ → ℕ → Chain

@@ -62,8 +62,8 @@ abbrev pub stand : QueuePass → ℕ
 stand q = (slot q q.own.at).named
 
 -- a take that begins when so many changes have taken effect
-abbrev pub beginning : ℕ → QueueOwn
-beginning start = record { going = true; start = start; at = 5; front = false; next = 0; past = false }
+abbrev pub beginning : ℕ → QueueOwn → QueueOwn
+beginning start own = record { going = true; start = start; at = 5; front = false; next = 0; past = false; behind = own.behind }
 
 -- the call takes effect or was answered
 abbrev pub resting : QueueOwn → QueueOwn
@@ -72,6 +72,14 @@ resting own = record own { going = false }
 -- its record leads to this one
 abbrev pub leading : ℕ → QueueOwn → QueueOwn
 leading n own = record own { next = n }
+
+-- it linked a record, behind the one to which head 1 leads
+abbrev pub lagging : QueueOwn → QueueOwn
+lagging own = record own { behind = true }
+
+-- it moved head 1 on
+abbrev pub caught_up : QueueOwn → QueueOwn
+caught_up own = record own { behind = false }
 
 -- head 1 has passed it
 abbrev pub passed : QueueOwn → QueueOwn
@@ -91,7 +99,8 @@ pub record IsEnd (z : Sizes) (found : ℕ) : Type 0 where
 -- The first load of a take, of head 0.
 pub record Begins (place found : ℕ) (before now : QueueView) : Type 0 where
   pub end : IsEnd before.known.sizes found
-  pub made : MadeQuietStep load_step place found found (with_own (beginning (length (log_of now.order))) before.known) before now
+  pub made : MadeQuietStep load_step place found found (with_own (beginning (length (log_of now.order)) before.known.own)
+      before.known) before now
 
 -- A load of a head.
 pub record Ends (place found : ℕ) (before now : QueueView) : Type 0 where
@@ -155,7 +164,7 @@ pub record Tried (place found : ℕ) (before now : QueueView) : Type 0 where
 
 -- The exchange of head 1.
 pub record Advanced (place first new found : ℕ) (before now : QueueView) : Type 0 where
-  pub same : found ≡ first → MadeQuietStep advance_step place found new before.known before now
+  pub same : found ≡ first → MadeQuietStep advance_step place found new (with_own (caught_up before.known.own) before.known) before now
   pub other : found ≢ first → MadeQuietStep missed_step place found found before.known before now
 
 -- What a call has to know for it: its record leads on to this one.
@@ -180,7 +189,7 @@ pub record MayLink (z : Sizes) (q : QueuePass) (i : ℕ) (d : PrivateRecord) (pl
 
 -- the pass after it
 abbrev pub linked : ℕ → ℕ → QueuePass → QueuePass
-linked i n q = record q { owned = remove_at i q.owned; own = leading n (resting q.own) }
+linked i n q = record q { owned = remove_at i q.owned; own = lagging (leading n (resting q.own)) }
 
 -- The exchange of the last record's nil link.
 pub record Linked (i n place v new found : ℕ) (before now : QueueView) : Type 0 where

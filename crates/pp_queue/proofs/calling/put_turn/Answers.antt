@@ -26,6 +26,10 @@ use Rattle.pp_queue.specs.Calling.{SameLists}
 use Rattle.pp_queue.proofs.Running.{ran_idle, ran_is, ran_looked, ran_unlinked, ran_advanced}
 use Rattle.pp_queue.proofs.Publishing.{published_linked, put_struck, lists_on, lists_rest, record_private}
 use Rattle.pp_queue.proofs.calling.put_turn.Goals as goal
+use Rattle.pp_queue.specs.Standing.{StaysUp}
+use Rattle.pp_queue.proofs.Standing.{seen_of}
+use Rattle.pp_queue.proofs.Finding.{up_made, put_last, put_links, put_advances}
+use Rattle.std.proofs.Math.Bool.{false≢true}
 
 pub advance-requires-clause-may : goal.advance-requires-clause-may
 advance-requires-clause-may c = let z = c.args.pool.now.layout in let q1 = known c.stand_at.new.pass.seat in
@@ -275,3 +279,63 @@ returns-clause-same_lists c = let v0 = view c.args.pass.now.seat in let v1 = vie
     (goes_made v4 v5 c.clear-2.ensures.made (rest_cleared v4.known 0)))).rest in
     let purse = c.clear-2.ensures.purse ∙ (c.advance-2.ensures.purse ∙ purse2) in
     lists_rest v0.known v5.known all
+
+pub returns-then-not-stand_at-clause-alone : goal.returns-then-not-stand_at-clause-alone
+returns-then-not-stand_at-clause-alone c = λ one up is.
+    absurd (false≢true (sym c.if-not-stand_at.true ∙ c.stand_at.ensures.alone one is))
+
+pub returns-then-linked-clause-alone : goal.returns-then-linked-clause-alone
+returns-then-linked-clause-alone c = λ one up is. let z = c.args.pool.now.layout in let p1 = c.stand_at.new.pass in
+    let p2 = c.look-link.new.pass in
+    let v1 = view p1.seat in let v2 = view p2.seat in
+    let few : v1.known.sizes ≡ z = c.stand_at.ensures.same.sizes ∙ c.requires.fits.sizes in
+    let stood : c.stand_at.result ≡ true = c.if-not-stand_at.false in
+    let st = c.stand_at.ensures.stands stood in
+    let seen1 = seen_of p1.seat p1.keeping.lone p1.run in let seen2 = seen_of p2.seat p2.keeping.lone p2.run in
+    let there = c.stand_at.ensures.there one stood in
+    let p3 = c.link_behind-found.new.pass in let p4 = c.advance.new.pass in let v5 = view c.clear.new.pass.seat in (
+      refl,
+      up_made (view p4.seat) v5 c.clear.ensures.made refl (put_advances z one c.requires.two v1 v2 c.args.first c.look-link.result few
+          p1.keeping.pass.pass seen1 seen2 st c.requires.first there (c.stand_at.ensures.up up) c.look-link.ensures.looked
+          (view p3.seat) (seen_of p3.seat p3.keeping.lone p3.run) c.args.number (16 * c.args.number) c.link_behind-found.result
+          c.link_behind-found.ensures.linked (view p4.seat) (seen_of p4.seat p4.keeping.lone p4.run) _ _ c.advance.ensures.advanced),
+    )
+
+pub returns-then-last-clause-alone : goal.returns-then-last-clause-alone
+returns-then-last-clause-alone c = λ one up is. let z = c.args.pool.now.layout in let p1 = c.stand_at.new.pass in
+    let p2 = c.look-link.new.pass in
+    let v1 = view p1.seat in let v2 = view p2.seat in
+    let few : v1.known.sizes ≡ z = c.stand_at.ensures.same.sizes ∙ c.requires.fits.sizes in
+    let stood : c.stand_at.result ≡ true = c.if-not-stand_at.false in
+    let st = c.stand_at.ensures.stands stood in
+    let seen1 = seen_of p1.seat p1.keeping.lone p1.run in let seen2 = seen_of p2.seat p2.keeping.lone p2.run in
+    let there = c.stand_at.ensures.there one stood in
+    let p3 = c.link_behind-found.new.pass in
+    absurd (c.if-linked.false (put_links z one c.requires.two v1 v2 c.args.first c.look-link.result few
+    p1.keeping.pass.pass seen1 seen2 st c.requires.first there (c.stand_at.ensures.up up) c.look-link.ensures.looked
+    (view p3.seat) (seen_of p3.seat p3.keeping.lone p3.run) c.args.number (16 * c.args.number) c.link_behind-found.result
+    c.link_behind-found.ensures.linked))
+
+pub returns-then-invalid-clause-alone : goal.returns-then-invalid-clause-alone
+returns-then-invalid-clause-alone c = λ one up is. let z = c.args.pool.now.layout in let p1 = c.stand_at.new.pass in
+    let p2 = c.look-link.new.pass in
+    let v1 = view p1.seat in let v2 = view p2.seat in
+    let few : v1.known.sizes ≡ z = c.stand_at.ensures.same.sizes ∙ c.requires.fits.sizes in
+    let stood : c.stand_at.result ≡ true = c.if-not-stand_at.false in
+    let st = c.stand_at.ensures.stands stood in
+    let seen1 = seen_of p1.seat p1.keeping.lone p1.run in let seen2 = seen_of p2.seat p2.keeping.lone p2.run in
+    let there = c.stand_at.ensures.there one stood in
+    absurd (c.if-last.false (put_last z one c.requires.two v1 v2 c.args.first c.look-link.result few
+    p1.keeping.pass.pass seen1 seen2 st c.requires.first there (c.stand_at.ensures.up up) c.look-link.ensures.looked))
+
+pub returns-clause-alone : goal.returns-clause-alone
+returns-clause-alone c = λ one up is. let z = c.args.pool.now.layout in let p1 = c.stand_at.new.pass in
+    let p2 = c.look-link.new.pass in
+    let v1 = view p1.seat in let v2 = view p2.seat in
+    let few : v1.known.sizes ≡ z = c.stand_at.ensures.same.sizes ∙ c.requires.fits.sizes in
+    let stood : c.stand_at.result ≡ true = c.if-not-stand_at.false in
+    let st = c.stand_at.ensures.stands stood in
+    let seen1 = seen_of p1.seat p1.keeping.lone p1.run in let seen2 = seen_of p2.seat p2.keeping.lone p2.run in
+    let there = c.stand_at.ensures.there one stood in
+    absurd (c.if-last.false (put_last z one c.requires.two v1 v2 c.args.first c.look-link.result few
+    p1.keeping.pass.pass seen1 seen2 st c.requires.first there (c.stand_at.ensures.up up) c.look-link.ensures.looked))

@@ -21,6 +21,12 @@ use Rattle.pp_queues.specs.Losses.{Tally, losing, striking}
 use Rattle.pp_queues.proofs.Counting.{ran_both}
 use Rattle.pp_queue.proofs.Running.{ran_idle, ran_flush, ran_took, ran_missed}
 use Rattle.pp_queue.proofs.calling.remove_dummy.Goals as goal
+use Rattle.std.proofs.Common.{Bool, true, false, ap₂, ◌*◌}
+use Rattle.pp_link.specs.declared.layout.Sizes.{Sizes}
+use Rattle.pp_queues.specs.declared.own.QueueOwn.{QueueOwn}
+use Rattle.pp_queue.specs.Standing.{StaysUp}
+use Rattle.pp_queue.proofs.Standing.{seen_of, found_here, dummy_stays}
+use Rattle.pp_queue.proofs.Finding.{up_made, up_on}
 
 pub guard-requires-clause-unused : goal.guard-requires-clause-unused
 guard-requires-clause-unused c = let now = c.flush_full.new.pass in
@@ -162,3 +168,40 @@ returns-clause-steps c = λ word n. let z = c.args.pool.now.layout in let t : �
     (ran_both z.passes (t n) (t (n + 1)) (t (n + 1)) v2 v3 v4
     (ran_missed z.passes v2 v3 _ _ _ _ _ _ word n c.if-found-first.false (omega arith) c.detach_dummy-found.ensures.took)
     (ran_idle z.passes v3 v4 (t (n + 1)) c.unguard.ensures.made refl refl)))
+
+pub returns-then-found-first-clause-up : goal.returns-then-found-first-clause-up
+returns-then-found-first-clause-up c = let v0 = view c.args.pass.now.seat in let v1 = view c.flush_full.new.pass.seat in
+    let v2 = view c.guard.new.pass.seat in let v3 = view c.detach_dummy-found.new.pass.seat in
+    let kept : StaysUp v0.known v1.known = λ up. ap (λ (o : QueueOwn). o.behind) c.flush_full.ensures.held.own ∙ up in
+    up_on v0.known v1.known v3.known kept (up_on v1.known v2.known v3.known (up_made v1 v2 c.guard.ensures.made refl)
+    (up_made v2 v3 (c.detach_dummy-found.ensures.took.same c.if-found-first.true) refl))
+
+pub returns-clause-up : goal.returns-clause-up
+returns-clause-up c = let v0 = view c.args.pass.now.seat in let v1 = view c.flush_full.new.pass.seat in
+    let v2 = view c.guard.new.pass.seat in let v3 = view c.detach_dummy-found.new.pass.seat in
+    let v4 = view c.unguard.new.pass.seat in
+    let kept : StaysUp v0.known v1.known = λ up. ap (λ (o : QueueOwn). o.behind) c.flush_full.ensures.held.own ∙ up in
+    up_on v0.known v1.known v4.known kept (up_on v1.known v2.known v4.known (up_made v1 v2 c.guard.ensures.made refl)
+    (up_on v2.known v3.known v4.known (up_made v2 v3 (c.detach_dummy-found.ensures.took.other c.if-found-first.false) refl)
+    (up_made v3 v4 c.unguard.ensures.made refl)))
+
+pub returns-clause-alone : goal.returns-clause-alone
+returns-clause-alone c = λ one going. let z = c.args.pool.now.layout in let now = c.flush_full.new.pass in
+    let word : ℕ = c.free_word-word.result in let guarded = c.guard.new.pass in let then = c.detach_dummy-found.new.pass in
+    let v0 = view c.args.pass.now.seat in let v1 = view now.seat in let v2 = view guarded.seat in let v3 = view then.seat in
+    let held = c.flush_full.ensures.held in let m = c.requires.may in
+    let is : v2.known ≡ with_frontier word (target c.args.new) v1.known = known_after _ _ _ _ _ _ _ v1 v2 c.guard.ensures.made in
+    let own : v2.known.own ≡ v0.known.own = ap (λ (q : QueuePass). q.own) is ∙ held.own in
+    let walk : v2.known.walk ≡ v0.known.walk = ap (λ (q : QueuePass). q.walk) is ∙ held.walk in
+    let same : stand v2.known ≡ stand v0.known =
+    ap₂ (λ (ws : List WalkSlot) (o : QueueOwn). (get_or ws o.at blank).named) walk own in
+    let few : v2.known.sizes ≡ z = c.guard.ensures.same.sizes ∙ (c.flush_full.ensures.same.sizes ∙ c.requires.fits.sizes) in
+    let one2 : v2.known.sizes.passes ≡ 1 = ap (λ (y : Sizes). y.passes) few ∙ one in
+    let low2 = guarded.keeping.pass.pass in
+    let low : v2.known.number < z.passes = subst (λ (y : Sizes). v2.known.number < y.passes) few low2 in
+    absurd (c.if-found-first.false (found_here v2 v3 (c.detach_dummy-found.ensures.took.other c.if-found-first.false) refl one2 low2
+    (seen_of then.seat then.keeping.lone then.run) refl
+    ∙ (dummy_stays z v2 few one m.two low (seen_of guarded.seat guarded.keeping.lone guarded.run)
+    (subst (λ (o : QueueOwn). o.at < 5) (sym own) m.word) (ap (λ (o : QueueOwn). o.front) own ∙ m.front)
+    (ap (λ (o : QueueOwn). o.going) own ∙ going)
+    ∙ (ap (λ (n : ℕ). 16 * n) same ∙ sym m.first_is))))

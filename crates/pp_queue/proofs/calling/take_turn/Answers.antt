@@ -12,6 +12,12 @@ use Rattle.pp_queues.specs.Losses.{Tally, losing, striking, Ran}
 use Rattle.pp_queues.proofs.Counting.{ran_both}
 use Rattle.pp_queue.proofs.Running.{ran_idle, ran_is, ran_saw, ran_tried, ran_settled, ran_advanced, ran_read}
 use Rattle.pp_queue.proofs.calling.take_turn.Goals as goal
+use Rattle.pp_queue.proofs.Passing.{may_remove}
+use Rattle.pp_queue.specs.Standing.{StaysUp}
+use Rattle.pp_queue.proofs.Standing.{seen_of}
+use Rattle.pp_queue.proofs.Finding.{up_made, up_on, up_saw, up_tried, up_advanced, take_valid, take_link, take_past}
+use Rattle.std.proofs.Math.Bool.{false≢true}
+use Rattle.pp_queues.specs.declared.own.QueueOwn.{QueueOwn}
 
 pub returns-then-not-stand_at-clause-rest : goal.returns-then-not-stand_at-clause-rest
 returns-then-not-stand_at-clause-rest c = let pass = c.args.pass.now in let a = c.stand_at.new.pass in
@@ -345,3 +351,120 @@ returns-clause-steps c = λ n.
           c.value-taken.ensures.read)
           (c.let_go-2.ensures.steps s))),
     )
+
+pub remove_dummy-requires-clause-may : goal.remove_dummy-requires-clause-may
+remove_dummy-requires-clause-may c = may_remove c.args.pool.now.layout (view c.stand_at.new.pass.seat) (view c.see-last.new.pass.seat)
+    (view c.try_next-link.new.pass.seat) (known c.hold_next.new.pass.seat) c.args.first c.see-last.result c.try_next-link.result _ _
+    c.requires.two (c.stand_at.ensures.stands c.if-not-stand_at.false) c.requires.first c.see-last.ensures.saw c.if-last-first.false
+    c.try_next-link.ensures.tried c.if-empty.false (c.hold_next.ensures.holds c.if-not-hold_next.false)
+
+pub returns-then-empty-clause-up : goal.returns-then-empty-clause-up
+returns-then-empty-clause-up c = let v0 = view c.args.pass.now.seat in let v1 = view c.stand_at.new.pass.seat in
+    let v2 = view c.see-last.new.pass.seat in let v3 = view c.try_next-link.new.pass.seat in
+    let up2 : StaysUp v0.known v2.known = up_on v0.known v1.known v2.known c.stand_at.ensures.up
+    (up_saw _ _ v1 v2 c.see-last.ensures.saw) in
+    let up3 : StaysUp v0.known v3.known = up_on v0.known v2.known v3.known up2 (up_tried _ _ v2 v3 c.try_next-link.ensures.tried) in
+    let v4 = view c.clear.new.pass.seat in up_on v0.known v3.known v4.known up3 (up_made v3 v4 c.clear.ensures.made refl)
+
+pub returns-then-invalid-clause-up : goal.returns-then-invalid-clause-up
+returns-then-invalid-clause-up c = let v0 = view c.args.pass.now.seat in let v1 = view c.stand_at.new.pass.seat in
+    let v2 = view c.see-last.new.pass.seat in let v3 = view c.try_next-link.new.pass.seat in
+    let up2 : StaysUp v0.known v2.known = up_on v0.known v1.known v2.known c.stand_at.ensures.up
+    (up_saw _ _ v1 v2 c.see-last.ensures.saw) in
+    let up3 : StaysUp v0.known v3.known = up_on v0.known v2.known v3.known up2 (up_tried _ _ v2 v3 c.try_next-link.ensures.tried) in
+    let v4 = view c.clear-then-invalid.new.pass.seat in
+    up_on v0.known v3.known v4.known up3 (up_made v3 v4 c.clear-then-invalid.ensures.made refl)
+
+pub returns-then-not-hold_next-clause-up : goal.returns-then-not-hold_next-clause-up
+returns-then-not-hold_next-clause-up c = let v0 = view c.args.pass.now.seat in let v1 = view c.stand_at.new.pass.seat in
+    let v2 = view c.see-last.new.pass.seat in let v3 = view c.try_next-link.new.pass.seat in
+    let up2 : StaysUp v0.known v2.known = up_on v0.known v1.known v2.known c.stand_at.ensures.up
+    (up_saw _ _ v1 v2 c.see-last.ensures.saw) in
+    let up3 : StaysUp v0.known v3.known = up_on v0.known v2.known v3.known up2 (up_tried _ _ v2 v3 c.try_next-link.ensures.tried) in
+    let v4 = view c.hold_next.new.pass.seat in let v5 = view c.clear-then-not-hold_next.new.pass.seat in
+    up_on v0.known v3.known v5.known up3 (up_on v3.known v4.known v5.known c.hold_next.ensures.up
+    (up_made v4 v5 c.clear-then-not-hold_next.ensures.made refl))
+
+pub returns-then-last-first-clause-up : goal.returns-then-last-first-clause-up
+returns-then-last-first-clause-up c = let v0 = view c.args.pass.now.seat in let v1 = view c.stand_at.new.pass.seat in
+    let v2 = view c.see-last.new.pass.seat in let v3 = view c.try_next-link.new.pass.seat in
+    let up2 : StaysUp v0.known v2.known = up_on v0.known v1.known v2.known c.stand_at.ensures.up
+    (up_saw _ _ v1 v2 c.see-last.ensures.saw) in
+    let up3 : StaysUp v0.known v3.known = up_on v0.known v2.known v3.known up2 (up_tried _ _ v2 v3 c.try_next-link.ensures.tried) in
+    let v4 = view c.hold_next.new.pass.seat in let v5 = view c.advance.new.pass.seat in
+    let v6 = view c.let_go.new.pass.seat in
+    up_on v0.known v3.known v6.known up3 (up_on v3.known v4.known v6.known c.hold_next.ensures.up
+    (up_on v4.known v5.known v6.known (up_advanced _ _ _ _ v4 v5 c.advance.ensures.advanced) c.let_go.ensures.up))
+
+pub returns-then-not-remove_dummy-clause-up : goal.returns-then-not-remove_dummy-clause-up
+returns-then-not-remove_dummy-clause-up c = let v0 = view c.args.pass.now.seat in let v1 = view c.stand_at.new.pass.seat in
+    let v2 = view c.see-last.new.pass.seat in let v3 = view c.try_next-link.new.pass.seat in
+    let up2 : StaysUp v0.known v2.known = up_on v0.known v1.known v2.known c.stand_at.ensures.up
+    (up_saw _ _ v1 v2 c.see-last.ensures.saw) in
+    let up3 : StaysUp v0.known v3.known = up_on v0.known v2.known v3.known up2 (up_tried _ _ v2 v3 c.try_next-link.ensures.tried) in
+    let v4 = view c.hold_next.new.pass.seat in let v5 = view c.remove_dummy.new.pass.seat in
+    let v6 = view c.let_go-then-not-remove_dummy.new.pass.seat in
+    up_on v0.known v3.known v6.known up3 (up_on v3.known v4.known v6.known c.hold_next.ensures.up
+    (up_on v4.known v5.known v6.known c.remove_dummy.ensures.up c.let_go-then-not-remove_dummy.ensures.up))
+
+pub returns-clause-up : goal.returns-clause-up
+returns-clause-up c = let v0 = view c.args.pass.now.seat in let v1 = view c.stand_at.new.pass.seat in
+    let v2 = view c.see-last.new.pass.seat in let v3 = view c.try_next-link.new.pass.seat in
+    let up2 : StaysUp v0.known v2.known = up_on v0.known v1.known v2.known c.stand_at.ensures.up
+    (up_saw _ _ v1 v2 c.see-last.ensures.saw) in
+    let up3 : StaysUp v0.known v3.known = up_on v0.known v2.known v3.known up2 (up_tried _ _ v2 v3 c.try_next-link.ensures.tried) in
+    let v4 = view c.hold_next.new.pass.seat in let v5 = view c.remove_dummy.new.pass.seat in
+    let v6 = view c.value-taken.new.pass.seat in let v7 = view c.let_go-2.new.pass.seat in
+    let r = c.value-taken.ensures.read in let m = view r.middle in
+    up_on v0.known v3.known v7.known up3 (up_on v3.known v4.known v7.known c.hold_next.ensures.up
+    (up_on v4.known v5.known v7.known c.remove_dummy.ensures.up (up_on v5.known v6.known v7.known
+    (up_on v5.known m.known v6.known (up_made v5 m r.first.made refl) (up_made m v6 r.second.made refl)) c.let_go-2.ensures.up)))
+
+pub returns-then-not-stand_at-clause-alone : goal.returns-then-not-stand_at-clause-alone
+returns-then-not-stand_at-clause-alone c = λ one up is.
+    absurd (false≢true (sym c.if-not-stand_at.true ∙ c.stand_at.ensures.alone one is))
+
+pub returns-then-invalid-clause-alone : goal.returns-then-invalid-clause-alone
+returns-then-invalid-clause-alone c = λ one up is. let z = c.args.pool.now.layout in let p1 = c.stand_at.new.pass in
+    let p2 = c.see-last.new.pass in let p3 = c.try_next-link.new.pass in
+    let v1 = view p1.seat in let v2 = view p2.seat in let v3 = view p3.seat in
+    let few : v1.known.sizes ≡ z = c.stand_at.ensures.same.sizes ∙ c.requires.fits.sizes in
+    let st = c.stand_at.ensures.stands c.if-not-stand_at.false in
+    let going : v1.known.own.going ≡ true = c.stand_at.ensures.on.rest.going ∙ c.requires.going in
+    let seen1 = seen_of p1.seat p1.keeping.lone p1.run in let seen2 = seen_of p2.seat p2.keeping.lone p2.run in
+    let seen3 = seen_of p3.seat p3.keeping.lone p3.run in
+    absurd (take_valid z one c.requires.two v1 v2 v3 c.args.first c.see-last.result c.try_next-link.result few
+    p1.keeping.pass.pass seen1 seen2 seen3 st going c.see-last.ensures.saw c.try_next-link.ensures.tried c.if-empty.false c.if-invalid.true)
+
+pub returns-then-not-hold_next-clause-alone : goal.returns-then-not-hold_next-clause-alone
+returns-then-not-hold_next-clause-alone c = λ one up is. let z = c.args.pool.now.layout in let p1 = c.stand_at.new.pass in
+    let p2 = c.see-last.new.pass in let p3 = c.try_next-link.new.pass in
+    let v1 = view p1.seat in let v2 = view p2.seat in let v3 = view p3.seat in
+    let few : v1.known.sizes ≡ z = c.stand_at.ensures.same.sizes ∙ c.requires.fits.sizes in
+    let st = c.stand_at.ensures.stands c.if-not-stand_at.false in
+    let going : v1.known.own.going ≡ true = c.stand_at.ensures.on.rest.going ∙ c.requires.going in
+    let seen1 = seen_of p1.seat p1.keeping.lone p1.run in let seen2 = seen_of p2.seat p2.keeping.lone p2.run in
+    let seen3 = seen_of p3.seat p3.keeping.lone p3.run in
+    absurd (false≢true (sym c.if-not-hold_next.true ∙ c.hold_next.ensures.alone one (take_link z one c.requires.two v1 v2 v3 c.args.first c.see-last.result c.try_next-link.result few
+    p1.keeping.pass.pass seen1 seen2 seen3 st going c.see-last.ensures.saw c.try_next-link.ensures.tried c.if-empty.false)))
+
+pub returns-then-last-first-clause-alone : goal.returns-then-last-first-clause-alone
+returns-then-last-first-clause-alone c = λ one up is. let z = c.args.pool.now.layout in let p1 = c.stand_at.new.pass in
+    let p2 = c.see-last.new.pass in let p3 = c.try_next-link.new.pass in
+    let v1 = view p1.seat in let v2 = view p2.seat in let v3 = view p3.seat in
+    let few : v1.known.sizes ≡ z = c.stand_at.ensures.same.sizes ∙ c.requires.fits.sizes in
+    let st = c.stand_at.ensures.stands c.if-not-stand_at.false in
+    let going : v1.known.own.going ≡ true = c.stand_at.ensures.on.rest.going ∙ c.requires.going in
+    let seen1 = seen_of p1.seat p1.keeping.lone p1.run in let seen2 = seen_of p2.seat p2.keeping.lone p2.run in
+    let seen3 = seen_of p3.seat p3.keeping.lone p3.run in
+    absurd (take_past z one c.requires.two v1 v2 v3 c.args.first c.see-last.result c.try_next-link.result few
+    p1.keeping.pass.pass seen1 seen2 seen3 st going c.see-last.ensures.saw c.try_next-link.ensures.tried c.if-empty.false (c.stand_at.ensures.up up) c.requires.first c.if-last-first.true)
+
+pub returns-then-not-remove_dummy-clause-alone : goal.returns-then-not-remove_dummy-clause-alone
+returns-then-not-remove_dummy-clause-alone c = λ one up is.
+    let v0 = view c.args.pass.now.seat in let v1 = view c.stand_at.new.pass.seat in
+    let v2 = view c.see-last.new.pass.seat in let v3 = view c.try_next-link.new.pass.seat in
+    let seen : GoesOn v0 v2 = goes_on v0 v1 v2 c.stand_at.ensures.on (goes_saw _ _ v1 v2 c.see-last.ensures.saw) in
+    let tried : GoesOn v0 v3 = goes_on v0 v2 v3 seen (goes_tried _ _ v2 v3 c.if-empty.false c.try_next-link.ensures.tried) in
+    let held : GoesOn v0 (view c.hold_next.new.pass.seat) = goes_on v0 v3 (view c.hold_next.new.pass.seat) tried c.hold_next.ensures.on in
+    absurd (false≢true (sym c.if-not-remove_dummy.true ∙ c.remove_dummy.ensures.alone one (held.rest.going ∙ c.requires.going)))

@@ -12,6 +12,11 @@ use Rattle.pp_queue.proofs.Running.{ran_ends}
 use Rattle.pp_queue.proofs.Publishing.{lists_on, lists_rest, put_after}
 use Rattle.pp_queue.proofs.Whole.{head_word_of, ended, record_on, struck_on}
 use Rattle.pp_queue.proofs.trying.link_record.Goals as goal
+use Rattle.std.proofs.Math.Bool.{false≢true}
+use Rattle.pp_link.specs.declared.layout.Sizes.{Sizes}
+use Rattle.pp_queue.specs.Standing.{StaysUp}
+use Rattle.pp_queue.proofs.Standing.{seen_of}
+use Rattle.pp_queue.proofs.Finding.{up_made, up_on, load_left}
 
 pub again-init : goal.again-init
 again-init c = let v0 = view c.args.pass.now.seat in let v1 = view c.load_end-first.new.pass.seat in
@@ -22,6 +27,12 @@ again-init c = let v0 = view c.args.pass.now.seat in let v1 = view c.load_end-fi
       ran = ran_none c.args.pool.now.layout.passes (losing c.load_end-first.result 0) v1 v1 refl;
       same = record { table_is = refl; number = refl; sizes = refl };
       first = head_word_of _ c.load_end-first.result c.args.pass.now.keeping.pass.within e.end;
+      alone = λ one up. (
+        up,
+        load_left v0 v1 e.made refl (ap (λ (y : Sizes). y.passes) c.requires.fits.sizes ∙ one)
+            c.args.pass.now.keeping.pass.pass
+            (seen_of c.load_end-first.new.pass.seat c.load_end-first.new.pass.keeping.lone c.load_end-first.new.pass.run) refl,
+      );
       empty = λ j lo lt. subst (λ (q : QueuePass). IsEmpty (slot q j)) (sym is) (c.requires.empty j lo lt);
       purse = refl;
     }
@@ -59,6 +70,8 @@ again-preserved c = let v1 = view c.load_end-first.new.pass.seat in let w = view
         sizes = e.sizes ∙ (s.sizes ∙ a.sizes);
       };
       first = head_word_of _ c.load_end-first-in-again.result c.put_turn.new.pass.keeping.pass.within ends.end;
+      alone = λ one up. let a = c.again.invariant.alone one up in
+          absurd (false≢true (sym c.if-put_turn.false ∙ (c.put_turn.ensures.alone one a.0 a.1).0));
       empty = λ j lo lt. subst (λ (q : QueuePass). IsEmpty (slot q j)) (sym is) (c.put_turn.ensures.empty j lo lt);
       purse = c.load_end-first-in-again.ensures.purse ∙ (c.put_turn.ensures.purse ∙ c.again.invariant.purse);
     }
@@ -76,6 +89,8 @@ returns-then-put_turn-clause-says c = λ v has. let v0 = view c.args.pass.now.se
     put_after z c.args.races v c.again.first n v0 w x so_far.0 so_far.1 turn (struck_on _ _ v0 w x a (c.put_turn.ensures.put v
     (record_on v0.known w.known c.args.pass.now.purse c.again.pass.purse c.args.number v a.rest.owned
     (c.again.invariant.purse ∙ c.load_end-first.ensures.purse) has) c.if-put_turn.true)) c.again.invariant.few
+    (λ one up. let a = c.again.invariant.alone one (up_made v0 v1 c.load_end-first.ensures.ends.made refl up) in
+    (c.put_turn.ensures.alone one a.0 a.1).1)
 
 pub returns-then-put_turn-clause-leaves : goal.returns-then-put_turn-clause-leaves
 returns-then-put_turn-clause-leaves c = c.put_turn.ensures.published c.if-put_turn.true
@@ -109,6 +124,8 @@ returns-then-over-clause-says c = λ v has. let v0 = view c.args.pass.now.seat i
       word = turn.0;
       ran = y.0;
       some = y.1;
+      others = λ one up. let a = c.again.invariant.alone one (up_made v0 v1 c.load_end-first.ensures.ends.made refl up) in
+          false≢true (sym c.if-put_turn.false ∙ (c.put_turn.ensures.alone one a.0 a.1).0);
     }
 
 pub returns-then-over-clause-leaves : goal.returns-then-over-clause-leaves

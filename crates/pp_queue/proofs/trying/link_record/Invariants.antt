@@ -1,4 +1,6 @@
-use Rattle.std.proofs.Common.{◌≡◌, ◌<◌, ◌-◌}
+use Rattle.std.proofs.Common.{◌≡◌, ◌<◌, ◌-◌, false}
+use Rattle.pp_link.specs.Places.{head_place}
+use Rattle.pp_queue.specs.Standing.{word_in}
 use Rattle.pp_base.specs.Passes.{known, view, IsSame}
 use Rattle.pp_queues.specs.Losses.{losing, Ran}
 use Rattle.pp_queue.specs.Calling.{GoesOn, IsHeadWord, EmptyFrom}
@@ -12,6 +14,8 @@ invariant-again l = record {
       (view l.pass.seat);
   same : IsSame l.initial.pass.seat l.pass.seat;
   first : IsHeadWord l.first;
+  alone : l.pool.layout.passes ≡ 1 → (known l.initial.pass.seat).own.behind ≡ false
+      → ((known l.pass.seat).own.behind ≡ false) × (l.first ≡ word_in (view l.pass.seat) (head_place l.pool.layout 1));
   empty : EmptyFrom 0 (known l.pass.seat);
   purse : l.pass.purse ≡ l.initial.pass.purse;
 }

@@ -11,6 +11,11 @@ use Rattle.pp_queue.proofs.Turning.{rest_same_lists, rest_goes}
 use Rattle.pp_queue.proofs.Running.{ran_ends}
 use Rattle.pp_queue.proofs.Whole.{head_word_of, began, began_on, begun, went_self, went_more, took_none, took_one, free_on}
 use Rattle.pp_queue.proofs.trying.take_value.Goals as goal
+use Rattle.std.proofs.Math.Bool.{false≢true}
+use Rattle.pp_link.specs.declared.layout.Sizes.{Sizes}
+use Rattle.pp_queue.specs.Standing.{StaysUp}
+use Rattle.pp_queue.proofs.Standing.{seen_of}
+use Rattle.pp_queue.proofs.Finding.{up_made, up_on, load_left}
 
 pub again-init : goal.again-init
 again-init c = let v0 = view c.args.pass.now.seat in let v1 = view c.begin-first.new.pass.seat in
@@ -21,6 +26,10 @@ again-init c = let v0 = view c.args.pass.now.seat in let v1 = view c.begin-first
       ran = ran_none c.args.pool.now.layout.passes (losing c.begin-first.result 0) v1 v1 refl;
       same = record { table_is = refl; number = refl; sizes = refl };
       first = head_word_of _ c.begin-first.result c.args.pass.now.keeping.pass.within b.end;
+      up = λ e. e;
+      alone = λ one _. load_left v0 v1 b.made refl (ap (λ (y : Sizes). y.passes) c.requires.fits.sizes ∙ one)
+          c.args.pass.now.keeping.pass.pass
+          (seen_of c.begin-first.new.pass.seat c.begin-first.new.pass.keeping.lone c.begin-first.new.pass.run) refl;
       empty = λ j lo lt. subst (λ (q : QueuePass). IsEmpty (slot q j)) (sym is) (c.requires.empty j lo lt);
       rest = rest_same_lists v0.known v1.known c.args.pass.now.purse c.begin-first.new.pass.purse (ap
           (λ (q : QueuePass). q.scan) is)
@@ -50,6 +59,9 @@ again-preserved c = let v1 = view c.begin-first.new.pass.seat in let w = view c.
         sizes = e.sizes ∙ (s.sizes ∙ a.sizes);
       };
       first = head_word_of _ c.load_end-first.result c.take_turn.new.pass.keeping.pass.within ends.end;
+      up = up_on v1.known w.known y.known c.again.invariant.up (up_on w.known x.known y.known c.take_turn.ensures.up
+          (up_made x y ends.made refl));
+      alone = λ one up. absurd (c.in-Again.ensures.alone one (c.again.invariant.up up) (c.again.invariant.alone one up));
       empty = λ j lo lt. subst (λ (q : QueuePass). IsEmpty (slot q j)) (sym is) (c.take_turn.ensures.empty j lo lt);
       rest = rest_goes x y c.take_turn.new.pass.purse c.load_end-first.new.pass.purse goes c.load_end-first.ensures.purse
           c.take_turn.ensures.rest;
@@ -101,4 +113,24 @@ returns-then-spent-clause-says c = let v0 = view c.args.pass.now.seat in let v1 
       word = turn.0;
       ran = all.0;
       some = all.1;
+      others = λ one up. let now = up_made v0 v1 c.begin-first.ensures.begins.made refl up in
+          c.in-Again.ensures.alone one (c.again.invariant.up now) (c.again.invariant.alone one now);
     }
+
+pub returns-in-Empty-clause-up : goal.returns-in-Empty-clause-up
+returns-in-Empty-clause-up c = let v0 = view c.args.pass.now.seat in let v1 = view c.begin-first.new.pass.seat in
+    let w = view c.again.pass.seat in let x = view c.take_turn.new.pass.seat in
+    up_on v0.known v1.known x.known (up_made v0 v1 c.begin-first.ensures.begins.made refl)
+    (up_on v1.known w.known x.known c.again.invariant.up c.take_turn.ensures.up)
+
+pub returns-in-Took-clause-up : goal.returns-in-Took-clause-up
+returns-in-Took-clause-up c = let v0 = view c.args.pass.now.seat in let v1 = view c.begin-first.new.pass.seat in
+    let w = view c.again.pass.seat in let x = view c.take_turn.new.pass.seat in
+    up_on v0.known v1.known x.known (up_made v0 v1 c.begin-first.ensures.begins.made refl)
+    (up_on v1.known w.known x.known c.again.invariant.up c.take_turn.ensures.up)
+
+pub returns-then-spent-clause-up : goal.returns-then-spent-clause-up
+returns-then-spent-clause-up c = let v0 = view c.args.pass.now.seat in let v1 = view c.begin-first.new.pass.seat in
+    let w = view c.again.pass.seat in let x = view c.take_turn.new.pass.seat in
+    up_on v0.known v1.known x.known (up_made v0 v1 c.begin-first.ensures.begins.made refl)
+    (up_on v1.known w.known x.known c.again.invariant.up c.take_turn.ensures.up)

@@ -1,4 +1,6 @@
-use Rattle.std.proofs.Common.{◌≡◌, ◌<◌, ◌-◌}
+use Rattle.std.proofs.Common.{◌≡◌, ◌<◌, ◌-◌, false}
+use Rattle.pp_link.specs.Places.{head_place}
+use Rattle.pp_queue.specs.Standing.{StaysUp, word_in}
 use Rattle.pp_base.specs.Passes.{known, view, Fits, IsSame, IsAtRest}
 use Rattle.pp_unlink.specs.Invalidation.{SameFree}
 use Rattle.pp_queues.specs.Losses.{losing, Ran}
@@ -13,6 +15,9 @@ invariant-again l = record {
       (view l.pass.seat);
   same : IsSame l.initial.pass.seat l.pass.seat;
   first : IsHeadWord l.first;
+  up : StaysUp (known l.initial.pass.seat) (known l.pass.seat);
+  alone : l.pool.layout.passes ≡ 1 → (known l.initial.pass.seat).own.behind ≡ false
+      → l.first ≡ word_in (view l.pass.seat) (head_place l.pool.layout 0);
   empty : EmptyFrom 0 (known l.pass.seat);
   rest : IsAtRest (known l.pass.seat) l.pass.purse;
   purse : SameFree l.initial.pass.purse l.pass.purse;
