@@ -1,23 +1,22 @@
 -- What a run by a plan leaves of its callers' passes and answers.
-use Rattle.std.proofs.Common.{◌≡◌, ◌≢◌, ℕ, zero, suc, ◌+◌, ◌<◌, ◌≤◌, List, [], ◌∷◌, length, map, Option, Some, None}
+use Rattle.std.proofs.Common.{◌≡◌, ℕ, zero, suc, ◌+◌, List, [], ◌∷◌, length, map, Option, Some}
 use Rattle.std.proofs.Common.{refl, sym, ap, ◌∙◌, subst, arith}
 use Rattle.std.specs.Prelude.{slice_get}
-use Rattle.std.proofs.lemmas.Option.{get_or_from_slice_get, slice_get_within}
+use Rattle.std.proofs.lemmas.Option.{get_or_from_slice_get}
 use Rattle.std.proofs.Math.ListN.{get_or}
 use Rattle.pp_model.specs.declared.Call.{Call}
 use Rattle.pp_model.specs.declared.Answer.{Answer}
-use Rattle.pp_model.specs.Lists.{AtEach}
 use Rattle.pp_model.specs.Pass.{PassView, GoingView, MapSizes, Meaning}
 use Rattle.pp_model.specs.MapCalls.{AnswersCalls, none}
-use Rattle.pp_running.proofs.Lists.{mapped_at, at_mapped}
+use Rattle.pp_running.proofs.Lists.{mapped_at}
 use Rattle.pp_schedule.specs.declared.caller.Caller.{Caller}
 use Rattle.pp_schedule.specs.declared.call_future.CallFuture.{CallFuture}
-use Rattle.pp_schedule.specs.Calls.{CallerAt, Doing, Shows, rests, calls_on}
+use Rattle.pp_schedule.specs.Calls.{CallerAt, Shows, rests, calls_on, answers_of, marks_of, all_capped}
 use Rattle.pp_schedule.specs.Plays.{Moment, Plays, Answered}
 use Rattle.pp_schedule.specs.Seats.{AllSeen, SeenAs}
 use Rattle.pp_schedule.proofs.Answered.{Chain, answers_all}
-use Rattle.pp_planned.specs.Planned.{somes, opened_callers, opened_at}
-use Rattle.pp_planned.proofs.Openings.{begun, begun_at}
+use Rattle.pp_planned.specs.Planned.{somes, opened_at}
+use Rattle.pp_planned.proofs.Openings.{begun_at}
 
 -- each caller of such a run made all calls of its list
 module _ (meaning : Meaning) (sizes : MapSizes) (races : ℕ) (plan : List ℕ) (passes : List PassView) (lists : List (List Call))
@@ -64,7 +63,8 @@ module _ {M P G N W : Type 0} (belongs : P → Type 0) (idle : P → Type 0) (un
     pub is_idle : idle pass
     pub shows : view pass ≡ v.pass
     pub caller : v.pass.caller ≡ k
-    pub answers : v.answers ≡ x.answers.items
+    pub answers : v.answers ≡ answers_of x.answers.items
+    pub marks : all_capped v.marks ≡ marks_of x.answers.items
 
   rests_at : (k : ℕ) (x : Caller M P G N W) (v : CallerAt) → SeenAs belongs idle under_way learnable view going_view this k x v
       → Answered v → Rests k x v
@@ -80,6 +80,7 @@ module _ {M P G N W : Type 0} (belongs : P → Type 0) (idle : P → Type 0) (un
         shows = is;
         caller = sees.caller;
         answers = sees.answers;
+        marks = sees.marks;
       }
       by pass call e (calls_on f d doing calling) = absurd (let n = sym doing ∙ over.none_going in cc)
 
@@ -87,12 +88,13 @@ module _ {M P G N W : Type 0} (belongs : P → Type 0) (idle : P → Type 0) (un
     pub views : map view (somes (map (λ x. x.pass) xs)) ≡ map (λ v. v.pass) vs
     pub each : (k : ℕ) (p : P) → slice_get (somes (map (λ x. x.pass) xs)) k ≡ Some p
         → belongs p × idle p × ((view p).caller ≡ n + k)
-    pub answers : map (λ a. a.items) (map (λ x. x.answers) xs) ≡ map (λ v. v.answers) vs
+    pub answers : map (λ x. answers_of x.answers.items) xs ≡ map (λ v. v.answers) vs
+    pub marks : map (λ x. marks_of x.answers.items) xs ≡ map (λ v. all_capped v.marks) vs
 
   leaves_from : (n : ℕ) (xs : List (Caller M P G N W)) (vs : List CallerAt) → length vs ≡ length xs
       → ((k : ℕ) (x : Caller M P G N W) (v : CallerAt) → slice_get xs k ≡ Some x → slice_get vs k ≡ Some v → Rests (n + k) x v)
       → Leaves n xs vs
-  leaves_from n [] [] e rest = record { views = refl; each = λ k p at. absurd cc; answers = refl }
+  leaves_from n [] [] e rest = record { views = refl; each = λ k p at. absurd cc; answers = refl; marks = refl }
   leaves_from n [] (v ∷ vs) e rest = absurd (omega (arith, e))
   leaves_from n (x ∷ xs) [] e rest = absurd (omega (arith, e))
   leaves_from n (x ∷ xs) (v ∷ vs) e rest =
@@ -104,7 +106,8 @@ module _ {M P G N W : Type 0} (belongs : P → Type 0) (idle : P → Type 0) (un
       record {
         views = rw some (ap (λ l. view here.pass ∷ l) later.views ∙ ap (λ p. p ∷ map (λ v. v.pass) vs) here.shows);
         each = rw some (each_of later here);
-        answers = ap (λ l. x.answers.items ∷ l) later.answers ∙ ap (λ a. a ∷ map (λ v. v.answers) vs) (sym here.answers);
+        answers = ap (λ l. answers_of x.answers.items ∷ l) later.answers ∙ ap (λ a. a ∷ map (λ v. v.answers) vs) (sym here.answers);
+        marks = ap (λ l. marks_of x.answers.items ∷ l) later.marks ∙ ap (λ a. a ∷ map (λ v. all_capped v.marks) vs) (sym here.marks);
       }
     where
       each_of : Leaves (n + 1) xs vs → (here : Rests (n + 0) x v) → (k : ℕ) (p : P)

@@ -1,5 +1,5 @@
 -- Callers before their first turn.
-use Rattle.std.proofs.Common.{◌≡◌, ◌≢◌, ℕ, zero, suc, ◌+◌, ◌-◌, ◌^◌, ◌<◌, ◌≤◌, List, [], ◌∷◌, ◌++◌, length, drop, map, set}
+use Rattle.std.proofs.Common.{◌≡◌, ◌≢◌, ℕ, zero, suc, ◌-◌, ◌^◌, ◌<◌, ◌≤◌, List, [], ◌∷◌, ◌++◌, length, drop, map, set}
 use Rattle.std.proofs.Common.{Option, Some, None}
 use Rattle.std.proofs.Common.{refl, sym, ap, ◌∙◌, subst, arith, All, Vec, Global}
 use Rattle.std.specs.Prelude.{slice_get, vec_capacity, IfSome}
@@ -15,7 +15,7 @@ use Rattle.pp_running.specs.Run.{IsOpened}
 use Rattle.pp_running.proofs.Lists.{mapped_at, at_mapped}
 use Rattle.pp_schedule.specs.declared.caller.Caller.{Caller}
 use Rattle.pp_schedule.specs.declared.call_future.CallFuture.{CallFuture}
-use Rattle.pp_schedule.specs.Calls.{CallerAt, Doing, InCall, Shows, rests, CanLearn}
+use Rattle.pp_schedule.specs.Calls.{CallerAt, InCall, Shows, rests, CanLearn, answers_of, marks_of}
 use Rattle.pp_schedule.specs.Plays.{state_of}
 use Rattle.pp_schedule.specs.Schedule.{Opens}
 use Rattle.pp_schedule.specs.Seats.{SeenAs, MayGoOn, AllSeen, AllMayGoOn}
@@ -25,7 +25,7 @@ use Rattle.pp_planned.specs.Planned.{somes, told_nothing, opened_callers, opened
 
 -- a caller that has begun none of these calls
 abbrev pub begun : PassView → List Call → CallerAt
-begun p calls = record { pass = p; doing = None; calls = calls; answers = [] }
+begun p calls = record { pass = p; doing = None; calls = calls; answers = []; mark = 0; marks = [] }
 
 pub record BegunAt (passes : List PassView) (lists : List (List Call)) (k : ℕ) (v : CallerAt) : Type 0 where
   pub pass : PassView
@@ -49,13 +49,6 @@ pub opened_length : (passes : List PassView) (lists : List (List Call)) → leng
 opened_length [] lists e = refl
 opened_length (p ∷ passes) [] e = absurd (omega (arith, e))
 opened_length (p ∷ passes) (calls ∷ lists) e = ap suc (opened_length passes lists (omega (arith, e)))
-
--- an element that is replaced by one that shows the same leaves what the list shows
-pub set_shown : {A B : Type 0} (f : A → B) (xs : List A) (k : ℕ) (x y : A) → slice_get xs k ≡ Some x → f y ≡ f x
-    → map f (set xs k y) ≡ map f xs
-set_shown f [] k x y at e = refl
-set_shown f (z ∷ xs) zero x y at e = ap (λ v. v ∷ map f xs) (e ∙ ap f (sym (some_same at)))
-set_shown f (z ∷ xs) (suc k) x y at e = ap (λ l. f z ∷ l) (set_shown f xs k x y at e)
 
 pub firsts_some : {A B : Type 0} (xs : List (A × B)) → map (λ p. Some p.0) xs ≡ map Some (map (λ p. p.0) xs)
 firsts_some [] = refl
@@ -141,6 +134,7 @@ module _ {M P G N W : Type 0} (belongs : P → Type 0) (idle : P → Type 0) (un
     pub call : x.call ≡ None
     pub next : x.next ≡ 0
     pub answers : x.answers.items ≡ []
+    pub mark : x.mark ≡ 0
     pub space : length x.calls.items ≤ vec_capacity x.answers
     pub belongs_to : belongs p
     pub is_idle : idle p
@@ -158,7 +152,9 @@ module _ {M P G N W : Type 0} (belongs : P → Type 0) (idle : P → Type 0) (un
         (λ (f : CallFuture M P G N W). f.parts) (begun (view p) calls) (Some p) o) (sym m.call)
         (rests p m.belongs_to m.is_idle refl refl));
     calls = sym m.calls_are ∙ ap (λ (j : ℕ). drop j x.calls.items) (sym m.next);
-    answers = sym m.answers;
+    answers = sym (ap answers_of m.answers);
+    marks = sym (ap marks_of m.answers);
+    mark = sym m.mark;
     maps = subst (λ (o : Option (CallFuture M P G N W)). IfSome o (λ f. f.map.now ≡ this)) (sym m.call) tt;
     caller = m.opened.caller;
   }
@@ -221,7 +217,7 @@ module _ {M P G N W : Type 0} (belongs : P → Type 0) (idle : P → Type 0) (un
     (learnable : P → N → Type 0) (view : P → PassView) (going_view : P → G → GoingView) (this : M) (note : N)
     (ps : List P) (given : List (Vec Call Global)) (xs : List (Caller M P G N W)) (lengths : length given ≡ length ps)
     (passes_are : map (λ x. x.pass) xs ≡ map Some ps) (lists_are : map (λ x. x.calls) xs ≡ given)
-    (idle_all : All (λ x. (x.call ≡ None) × (x.next ≡ 0)) xs) (empty_all : All (λ x. x.answers.items ≡ []) xs)
+    (idle_all : All (λ x. (x.call ≡ None) × (x.next ≡ 0) × (x.mark ≡ 0)) xs) (empty_all : All (λ x. x.answers.items ≡ []) xs)
     (room_all : All (λ x. length x.calls.items ≤ vec_capacity x.answers) xs)
     (opened : AtEach ps (λ c p. belongs p × idle p × IsOpened c (view p))) (learns : AtEach ps (λ c p. learnable p note))
     (keys : KeysFit (map (λ v. v.items) given)) (room : HaveRoom (map view ps) (map (λ v. v.items) given)) where
@@ -255,6 +251,7 @@ module _ {M P G N W : Type 0} (belongs : P → Type 0) (idle : P → Type 0) (un
         call = i.0;
         next = i.1;
         answers = e;
+        mark = i.2;
         space = r;
         belongs_to = o.0;
         is_idle = o.1;

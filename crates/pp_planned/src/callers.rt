@@ -4,11 +4,13 @@ ghost use Rattle.std.specs.Prelude.{◌≡◌, ◌≤◌, map, length, vec_capac
 ghost use Rattle.pp_model.specs.Lists.{AtEach};
 ghost use Rattle.pp_running.specs.Run.{IsOpened};
 ghost use Rattle.pp_running.specs.Jobs.{views_of};
+ghost use Rattle.pp_schedule.specs.Calls.{answers_of, marks_of};
+ghost use Rattle.pp_schedule.specs.Seats.{calls_of};
 ghost use Rattle.pp_planned.specs.Planned.{somes, told_nothing};
 
 use pp_model::{Answer, Call, MapCalls, NoMemory};
 use pp_running::jobs::append;
-use pp_schedule::caller::Caller;
+use pp_schedule::caller::{Caller, Marked};
 use std::alloc::Global;
 
 /// A note of the first pass, which has seen nothing. All passes may learn it.
@@ -35,7 +37,7 @@ where
     requires { length lists.items ≡ length passes.items }
     ensures passes { IfOk result (λ callers. map (λ c. c.pass) callers.items ≡ map Some passes.items) }
     ensures calls { IfOk result (λ callers. map (λ c. c.calls) callers.items ≡ lists.items) }
-    ensures idle { IfOk result (λ callers. All (λ c. (c.call ≡ None) × (c.next ≡ 0)) callers.items) }
+    ensures idle { IfOk result (λ callers. All (λ c. (c.call ≡ None) × (c.next ≡ 0) × (c.mark ≡ 0)) callers.items) }
     ensures empty { IfOk result (λ callers. All (λ c. c.answers.items ≡ []) callers.items) }
     ensures room { IfOk result (λ callers. All (λ c. length c.calls.items ≤ vec_capacity c.answers) callers.items) }
 {
@@ -52,29 +54,63 @@ where
     Ok(callers)
 }
 
-/// The passes and the answers of callers none of whom has a call going.
+/// What callers leave: their passes, their lists of calls, and their answers and marks, each in the callers' order.
+#[derive(Drop)]
+pub struct Parts<P> {
+    pub passes: Vec<P>,
+    pub lists: Vec<Vec<Call>>,
+    pub answers: Vec<Vec<Answer>>,
+    pub marks: Vec<Vec<u64>>,
+}
+
+/// The parts of callers none of whom has a call going.
 pub fn parts_of<'a, M: MapCalls>(
     alloc: Global,
     callers: Vec<Caller<'a, M>>,
-) -> Result<(Vec<M::Pass>, Vec<Vec<Answer>>), NoMemory>
+) -> Result<Parts<M::Pass>, NoMemory>
 where
     M::Pass: Drop,
     M::Going: Drop,
-    ensures passes { IfOk result (λ parts. parts.0.items ≡ somes (map (λ c. c.pass) callers.entry.items)) }
-    ensures answers { IfOk result (λ parts. parts.1.items ≡ map (λ c. c.answers) callers.entry.items) }
+    ensures passes { IfOk result (λ parts. parts.passes.items ≡ somes (map (λ c. c.pass) callers.entry.items)) }
+    ensures lists { IfOk result (λ parts. parts.lists.items ≡ calls_of callers.entry.items) }
+    ensures answers { IfOk result (λ parts. map (λ v. v.items) parts.answers.items
+        ≡ map (λ c. answers_of c.answers.items) callers.entry.items) }
+    ensures marks { IfOk result (λ parts. map (λ v. v.items) parts.marks.items ≡ map (λ c. marks_of c.answers.items) callers.entry.items) }
 {
     let Ok(mut passes) = Vec::with_capacity(alloc, callers.len()) else {
         return Err(NoMemory);
     };
-    let Ok(mut answers) = Vec::with_capacity(alloc, callers.len()) else {
-        return Err(NoMemory);
-    };
+    let mut lists = Vec::new(alloc);
+    let mut answers = Vec::new(alloc);
+    let mut marks = Vec::new(alloc);
     for caller in callers {
-        let (pass, given) = caller.into_parts();
+        let (pass, calls, given) = caller.into_parts();
         append_some(&mut passes, pass)?;
-        append(&mut answers, given)?;
+        append(&mut lists, calls)?;
+        let (own_answers, own_marks) = apart(alloc, given)?;
+        append(&mut answers, own_answers)?;
+        append(&mut marks, own_marks)?;
     }
-    Ok((passes, answers))
+    Ok(Parts {
+        passes,
+        lists,
+        answers,
+        marks,
+    })
+}
+
+// The answers, and their marks.
+fn apart(alloc: Global, given: Vec<Marked>) -> Result<(Vec<Answer>, Vec<u64>), NoMemory>
+    ensures answers { IfOk result (λ both. both.0.items ≡ answers_of given.items) }
+    ensures marks { IfOk result (λ both. both.1.items ≡ marks_of given.items) }
+{
+    let mut answers = Vec::new(alloc);
+    let mut marks = Vec::new(alloc);
+    for one in given {
+        append(&mut answers, one.answer)?;
+        append(&mut marks, one.mark)?;
+    }
+    Ok((answers, marks))
 }
 
 // A caller without a pass has a call going, and gives none.

@@ -1,17 +1,17 @@
 //! A run of callers' calls by a plan of turns, on one thread, from a map's start to its closing.
 #![tactic(auto)]
 
-ghost use Rattle.std.specs.Prelude.{◌≡◌, ◌≤◌, ◌<◌, map, length, IfOk, IfErr};
+ghost use Rattle.std.specs.Prelude.{◌≡◌, ◌≤◌, ◌<◌, ◌⊎◌, map, length, IfOk, IfErr};
 ghost use Rattle.pp_model.specs.Lists.{AtEach};
 ghost use Rattle.pp_model.specs.History.{contents_of};
 ghost use Rattle.pp_trace.specs.TraceLists.{KeysFit};
 ghost use Rattle.pp_running.specs.Run.{IsRunOf, IsOpened};
 ghost use Rattle.pp_running.specs.Jobs.{HaveRoom, views_of};
-ghost use Rattle.pp_planned.specs.Planned.{IsPlanned, IsRunnersFault};
+ghost use Rattle.pp_planned.specs.Planned.{IsPlanned, IsMarked, IsRunnersFault};
 
 mod callers;
 
-use callers::{callers_of, first_note, parts_of};
+use callers::{Parts, callers_of, first_note, parts_of};
 use pp_model::{Call, MapCalls};
 use pp_running::Ran;
 use pp_schedule::Runner;
@@ -29,8 +29,17 @@ pub enum PlannedFault {
     NoMemory,
 }
 
+/// What a run by a plan gave: the callers' answers and the closed map, their lists of calls again, and the marks of their calls.
+#[derive(Drop)]
+pub struct Planned<W> {
+    pub ran: Ran<W>,
+    pub lists: Vec<Vec<Call>>,
+    pub marks: Vec<Vec<u64>>,
+}
+
 /// Makes the calls of these lists on a map with these passes, one a list, turn by turn in the order that the plan gives, and
-/// closes the map.
+/// closes the map. The calls are marked by how many changes had taken effect: from the marks follows where in the run's log each
+/// answered call has its place.
 ///
 /// # Errors
 ///
@@ -45,7 +54,7 @@ pub fn run_by_plan<R: Wait + RandomSource + AllocGlobal, X: Runner, M: MapCalls 
     lists: Vec<Vec<Call>>,
     races: u64,
     plan: Vec<u32>,
-) -> Result<Ran<M::Witness>, PlannedFault>
+) -> Result<Planned<M::Witness>, PlannedFault>
 where
     M::Pass: Drop,
     M::Going: Drop,
@@ -59,12 +68,15 @@ where
     requires room { HaveRoom (views_of M.pass_view passes.items) (map (λ v. v.items) lists.items) }
     requires races { 1 ≤ races }
     requires plan { AtEach plan.items (λ k c. c < length passes.items) }
-    ensures ran { IfOk result (λ ran. IsRunOf M.meaning (M.sizes chosen) races (views_of M.pass_view passes.items)
-        (map (λ v. v.items) lists.items) (map (λ v. v.items) ran.answers.items) (M.run_view ran.closed.witness)) }
-    ensures planned { IfOk result (λ ran. IsPlanned M.meaning (M.sizes chosen) races plan.items (views_of M.pass_view passes.items)
-        (map (λ v. v.items) lists.items) (M.run_view ran.closed.witness)) }
-    ensures contents { IfOk result (λ ran. ran.closed.contents.items ≡ contents_of (M.run_view ran.closed.witness).log) }
-    ensures few { IfOk result (λ ran. M.meaning.live (length ran.closed.contents.items) ≤ (M.sizes chosen).records) }
+    ensures ran { IfOk result (λ planned. IsRunOf M.meaning (M.sizes chosen) races (views_of M.pass_view passes.items)
+        (map (λ v. v.items) lists.items) (map (λ v. v.items) planned.ran.answers.items) (M.run_view planned.ran.closed.witness)) }
+    ensures planned { IfOk result (λ planned. IsPlanned M.meaning (M.sizes chosen) races plan.items (views_of M.pass_view passes.items)
+        (map (λ v. v.items) lists.items) (M.run_view planned.ran.closed.witness)) }
+    ensures lists { IfOk result (λ planned. planned.lists.items ≡ lists.items) }
+    ensures marked { (1 ≤ M.meaning.turn_steps) ⊎ (length lists.items ≡ 1) → IfOk result (λ planned. IsMarked (map (λ v. v.items) lists.items)
+        (map (λ v. v.items) planned.ran.answers.items) (map (λ v. v.items) planned.marks.items) (M.run_view planned.ran.closed.witness)) }
+    ensures contents { IfOk result (λ planned. planned.ran.closed.contents.items ≡ contents_of (M.run_view planned.ran.closed.witness).log) }
+    ensures few { IfOk result (λ planned. M.meaning.live (length planned.ran.closed.contents.items) ≤ (M.sizes chosen).records) }
     ensures cause { IfErr result (IsRunnersFault (X.faults runner.old) (X.faults runner.new)) }
     ensures kept { IfOk result (λ _. X.faults runner.new ≡ X.faults runner.old) }
 {
@@ -76,11 +88,21 @@ where
     let Ok(callers) = play(rt, alloc, runner, &chosen, races, plan, callers, note) else {
         return Err(PlannedFault::Failed);
     };
-    let Ok((passes, answers)) = parts_of(alloc, callers) else {
+    let Ok(parts) = parts_of(alloc, callers) else {
         return Err(PlannedFault::NoMemory);
     };
+    let Parts {
+        passes,
+        lists,
+        answers,
+        marks,
+    } = parts;
     match chosen.close(alloc, passes) {
-        Ok(closed) => Ok(Ran { answers, closed }),
+        Ok(closed) => Ok(Planned {
+            ran: Ran { answers, closed },
+            lists,
+            marks,
+        }),
         Err(_) => Err(PlannedFault::NoMemory),
     }
 }

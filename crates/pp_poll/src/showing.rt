@@ -64,7 +64,7 @@ where
         (X.faults runner.old) (X.faults runner.new) (map (λ v. v.items) result.answers.items) (shown_run M.run_view result.closed) }
 {
     let Input { lists, plan } = input;
-    let ran = match run_by_plan(
+    let planned = match run_by_plan(
         rt,
         alloc,
         runner,
@@ -74,20 +74,20 @@ where
         settings.races,
         plan,
     ) {
-        Ok(ran) => ran,
+        Ok(planned) => planned,
         Err(fault) => return without_closing(alloc, way_of(fault)),
     };
     let way = finish(
         alloc,
         sink,
         settings.make,
-        &ran.answers,
-        ran.closed.contents(),
+        &planned.ran.answers,
+        planned.ran.closed.contents(),
     );
     Shown {
         way: PolledWay::Ended(way),
-        closed: Some(ran.closed),
-        answers: ran.answers,
+        closed: Some(planned.ran.closed),
+        answers: planned.ran.answers,
     }
 }
 

@@ -1,11 +1,11 @@
 -- In a run by a plan each caller made its calls one after another.
-use Rattle.std.proofs.Common.{◌≡◌, ◌≢◌, ℕ, zero, suc, ◌+◌, ◌<◌, ◌≤◌, List, [], ◌∷◌, ◌++◌, length, Option, Some, None, ⊎_elim}
-use Rattle.std.proofs.Common.{refl, sym, ap, ◌∙◌, subst, arith, append_assoc, append-nil}
+use Rattle.std.proofs.Common.{◌≡◌, ℕ, List, [], ◌∷◌, ◌++◌, Some, None, ⊎_elim}
+use Rattle.std.proofs.Common.{sym, ap, ◌∙◌, subst, append_assoc, append-nil}
 use Rattle.std.specs.Prelude.{slice_get}
 use Rattle.std.proofs.lemmas.Bool.{cases_eq}
 use Rattle.pp_model.specs.declared.Call.{Call}
-use Rattle.pp_model.specs.Pass.{PassView, NoteView, GoingView, MapSizes, Meaning}
-use Rattle.pp_model.specs.MapCalls.{AnswersCall, AnswersCalls, none, more}
+use Rattle.pp_model.specs.Pass.{PassView, NoteView, MapSizes, Meaning}
+use Rattle.pp_model.specs.MapCalls.{AnswersCall, AnswersCalls, more}
 use Rattle.pp_schedule.specs.Calls.{CallerAt, Doing, Has, goes_on, begins, Leaves, on, done, CallerTurn}
 use Rattle.pp_schedule.specs.Plays.{Moment, Answered, Move, Plays, ended, passed, planned, rest}
 

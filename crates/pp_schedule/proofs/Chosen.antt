@@ -1,15 +1,15 @@
 -- The caller that the plan chooses, and what lets it make a turn.
-use Rattle.std.proofs.Common.{◌≡◌, ◌≢◌, true, false, get_or, ℕ, zero, suc, ◌+◌, ◌-◌, ◌^◌, ◌<◌, ◌≤◌, List, [], ◌∷◌, ◌++◌, length}
-use Rattle.std.proofs.Common.{drop, Option, Some, None, ⊎_elim, refl, sym, ap, ◌∙◌, subst, arith}
-use Rattle.std.specs.Prelude.{slice_get, IfSome, IsSome, IsSomeAnd, vec_capacity}
+use Rattle.std.proofs.Common.{◌≡◌, true, false, get_or, ℕ, ◌-◌, ◌<◌, ◌≤◌, List, [], ◌∷◌, length}
+use Rattle.std.proofs.Common.{Option, Some, None, ⊎_elim, refl, sym, ap, ◌∙◌, subst, arith}
+use Rattle.std.specs.Prelude.{slice_get, IfSome, IsSome, vec_capacity}
 use Rattle.std.proofs.lemmas.Bool.{cases_lt, false≢true}
-use Rattle.std.proofs.lemmas.List.{drop_all, length-drop}
+use Rattle.std.proofs.lemmas.List.{drop_all, length-drop, length-map}
 use Rattle.std.proofs.lemmas.Option.{slice_get_within, slice_get_read}
 use Rattle.pp_schedule.proofs.Moved.{some_same}
-use Rattle.pp_model.specs.Pass.{PassView, GoingView, NoteView, MapSizes, Meaning}
+use Rattle.pp_model.specs.Pass.{PassView, GoingView, MapSizes, Meaning}
 use Rattle.pp_schedule.specs.declared.caller.Caller.{Caller}
 use Rattle.pp_schedule.specs.declared.call_future.CallFuture.{CallFuture}
-use Rattle.pp_schedule.specs.Calls.{CallerAt, Doing, Shows, rests, calls_on}
+use Rattle.pp_schedule.specs.Calls.{CallerAt, Shows, rests, calls_on}
 use Rattle.pp_schedule.specs.Plays.{Moment, Answered, Move, Plays, ended, passed, planned, rest}
 use Rattle.pp_schedule.specs.Seats.{SeenAs, MayGoOn, AllSeen, AllMayGoOn, IsOver, HasNone, Chooses, passes, takes, least, all_over}
 use Rattle.pp_schedule.proofs.Orders.{within_get}
@@ -82,6 +82,9 @@ module _ {M P G N W : Type 0} (belongs : P → Type 0) (idle : P → Type 0) (un
       left_is : length v.calls ≡ length x.calls.items - x.next
       left_is = ap length seen.calls ∙ length-drop x.next x.calls.items
 
+      many : length v.answers ≡ length x.answers.items
+      many = ap length seen.answers ∙ length-map x.answers.items (λ a. a.answer)
+
       none_some : (pass : Option P) → pass ≡ None → IsSome pass → ⊥
       none_some None e some = let s : false ≡ true = some in false≢true s
       none_some (Some p) e some = absurd cc
@@ -100,14 +103,14 @@ module _ {M P G N W : Type 0} (belongs : P → Type 0) (idle : P → Type 0) (un
           record {
             more = λ _. some;
             room = rw is_pass (omega (arith, r, b, left_is, some));
-            space = omega (arith, s, left_is, some, ap length seen.answers);
+            space = omega (arith, s, left_is, some, many);
           }
       by pass call is_pass is_call (calls_on f d doing calling) =
           let s = may.space_going d doing in
           record {
             more = λ some. absurd (none_some x.pass is_pass some);
             room = rw is_pass tt;
-            space = omega (arith, s, ap length seen.answers);
+            space = omega (arith, s, many);
           }
 
   -- the chosen caller, as it is seen, with what it needs for its turn

@@ -1,11 +1,10 @@
 -- What a pass keeps over two turns of a call with a note learnt between them.
-use Rattle.std.proofs.Common.{◌≡◌, ℕ, zero, suc, ◌+◌, ◌-◌, ◌<◌, ◌≤◌, List, [], ◌∷◌, ◌++◌, length, drop, Some, ⊎_elim, refl, sym}
-use Rattle.std.proofs.Common.{ap, ◌∙◌, subst, arith, length-append, append_assoc}
+use Rattle.std.proofs.Common.{◌≡◌, ℕ, ◌+◌, ◌-◌, ◌<◌, ◌≤◌, List, [], ◌∷◌, ◌++◌, length, drop, Some, ⊎_elim, refl, sym}
+use Rattle.std.proofs.Common.{ap, ◌∙◌, subst, arith, append_assoc}
 use Rattle.std.specs.Prelude.{slice_get}
 use Rattle.std.proofs.lemmas.Bool.{cases_lt}
-use Rattle.std.proofs.lemmas.Option.{slice_get_within}
 use Rattle.pp_model.specs.declared.steps.Step.{Step}
-use Rattle.pp_model.specs.Lists.{AtEach, IsPrefix}
+use Rattle.pp_model.specs.Lists.{IsPrefix}
 use Rattle.pp_model.specs.Pass.{PassView, NoteView, steps_since, seen_last}
 use Rattle.pp_model.specs.MapCalls.{Grew, Learns}
 use Rattle.pp_model.proofs.Chains.{IsPrefix-trans}

@@ -1,24 +1,24 @@
 -- What a turn's clauses say of the log, and what closing says of the passes.
-use Rattle.std.proofs.Common.{◌≡◌, ◌≢◌, ℕ, zero, suc, ◌+◌, ◌-◌, ◌<◌, ◌≤◌, Bool, true, false, cond, List, [], ◌∷◌, ◌++◌, length, map}
-use Rattle.std.proofs.Common.{Option, option_map, Some, None, ⊎_elim, ◌⊎◌, inl, inr, refl, sym, ap, ◌∙◌, subst, arith}
+use Rattle.std.proofs.Common.{◌≡◌, ℕ, suc, ◌+◌, Bool, true, false, cond, List, [], ◌∷◌, ◌++◌, length, map}
+use Rattle.std.proofs.Common.{option_map, Some, ⊎_elim, refl, sym, ap, ◌∙◌, subst, arith}
 use Rattle.std.proofs.Common.{length-append, append-nil}
 use Rattle.std.specs.Prelude.{slice_get}
 use Rattle.std.proofs.lemmas.Bool.{cases_Bool, true≢false}
 use Rattle.std.proofs.lemmas.Option.{slice_get-map}
 use Rattle.pp_model.specs.declared.Answer.{Answer}
 use Rattle.pp_model.specs.declared.Answer.TheVariants.{Said, Full, Lost}
-use Rattle.pp_model.specs.declared.Reply.{Reply}
 use Rattle.pp_model.specs.declared.Placed.{Placed}
 use Rattle.pp_model.specs.declared.Pair.{Pair}
 use Rattle.pp_model.specs.Lists.{AtEach, IsPrefix}
 use Rattle.pp_model.specs.Calls.{changes}
 use Rattle.pp_model.specs.History.{Stands, places_of}
 use Rattle.pp_model.specs.Pass.{PassView, GoingView, NoteView, MapSizes, Meaning, RunView, CallerRun, steps_of}
-use Rattle.pp_model.specs.MapCalls.{IsClosing, caller_run, Counted, AnswersCall, Strikes, Says, placed, took_effect, Learns}
+use Rattle.pp_model.specs.MapCalls.{IsClosing, caller_run, Counted, Says, placed, took_effect}
 use Rattle.pp_model.proofs.Histories.{places_of-append}
 use Rattle.pp_schedule.specs.Schedule.{Effect, none, struck, Closed, Advances}
 use Rattle.pp_model.specs.MapCalls.{MakesTurn}
-use Rattle.pp_schedule.specs.Calls.{Entering, CallerAt, Doing, Has, goes_on, begins, Leaves, on, done, CallerTurn, InCall}
+use Rattle.pp_schedule.specs.Calls.{Entering, CallerAt, Has, goes_on, begins, Leaves, on, done, CallerTurn, InCall}
+use Rattle.pp_schedule.specs.Calls.{strikes, count_after}
 
 -- a list that grew and has as many elements is the same
 same_length : {A : Type 0} → (xs ys : List A) → IsPrefix xs ys → length xs ≡ length ys → ys ≡ xs
@@ -47,27 +47,52 @@ placed_other mine s not =
     let one : places_of (s ∷ []) ≡ [] = rw not refl in
     places_of-append mine (s ∷ []) ∙ (ap (λ xs. places_of mine ++ xs) one ∙ append-nil (places_of mine))
 
-abbrev Effects : PassView → PassView → Type 0
-Effects before now = (places : List ℕ) × Effect before now places
+-- what a turn did to the log, with as many changes as are counted
+abbrev Effects : Bool → Bool → PassView → PassView → Type 0
+Effects was is before now = (places : List ℕ) × Effect before now places × (length places ≡ count_after was is 0)
 
-nothing : (before now : PassView) → now.mine ≡ before.mine → Effects before now
-nothing before now same = ([], none (ap places_of same))
+pub strikes_was : (was is : Bool) → was ≡ true → strikes was is ≡ false
+strikes_was true true e = refl
+strikes_was true false e = refl
+strikes_was false is e = absurd (true≢false (sym e))
+
+pub strikes_still : (was is : Bool) → is ≡ false → strikes was is ≡ false
+strikes_still was true e = absurd (true≢false e)
+strikes_still was false e = refl
+
+pub strikes_new : (was is : Bool) → was ≡ false → is ≡ true → strikes was is ≡ true
+strikes_new true is e f = absurd (true≢false e)
+strikes_new false true e f = refl
+strikes_new false false e f = absurd (true≢false (sym f))
+
+uncounted : (was is : Bool) → strikes was is ≡ false → 0 ≡ count_after was is 0
+uncounted was is e = sym (ap (λ b. cond b (0 + 1) 0) e)
+
+counted_once : (was is : Bool) → strikes was is ≡ true → 1 ≡ count_after was is 0
+counted_once was is e = sym (ap (λ b. cond b (0 + 1) 0) e)
+
+nothing : (was is : Bool) (before now : PassView) → now.mine ≡ before.mine → strikes was is ≡ false → Effects was is before now
+nothing was is before now same not = ([], none (ap places_of same), uncounted was is not)
 
 module _ (meaning : Meaning) (sizes : MapSizes) (was now : GoingView) (before ready left : PassView)
     (turn : MakesTurn meaning was now ready left) (in_call : Entering was before ready) where
-  strikes_effect : was.struck ≡ false → now.struck ≡ true → Effects ready left
+  strikes_effect : was.struck ≡ false → now.struck ≡ true → Effects was.struck now.struck ready left
   strikes_effect was_not is =
       let s = turn.strikes was_not is in
-      let one = placed was.call s.said s.place in
-      (s.place ∷ [], struck s.place (ap places_of s.mine ∙ placed_change ready.mine one s.changed) s.above s.within)
+      let one = placed was.call s.said s.place in (
+        s.place ∷ [],
+        struck s.place (ap places_of s.mine ∙ placed_change ready.mine one s.changed) s.above s.within,
+        counted_once was.struck now.struck (strikes_new was.struck now.struck was_not is),
+      )
 
-  again_effect : was.struck ≡ true → (t : Placed) → left.mine ≡ before.mine ++ t ∷ [] → Effects ready left
+  again_effect : was.struck ≡ true → (t : Placed) → left.mine ≡ before.mine ++ t ∷ [] → Effects was.struck now.struck ready left
   again_effect was_so t is =
       let had = in_call.taken was_so in
-      nothing ready left (entered_once before.mine ready.mine left.mine had.0 t had.2 is turn.grew.mine)
+      nothing was.struck now.struck ready left (entered_once before.mine ready.mine left.mine had.0 t had.2 is turn.grew.mine)
+      (strikes_was was.struck now.struck was_so)
 
   -- a turn that goes on
-  pub on_effect : Counted meaning sizes now before left → Effects ready left
+  pub on_effect : Counted meaning sizes now before left → Effects was.struck now.struck ready left
   on_effect counted =
       ⊎_elim
       (λ (was_so : was.struck ≡ true).
@@ -76,7 +101,8 @@ module _ (meaning : Meaning) (sizes : MapSizes) (was now : GoingView) (before re
       (λ (was_not : was.struck ≡ false).
       ⊎_elim
       (λ (is : now.struck ≡ true). strikes_effect was_not is)
-      (λ (is_not : now.struck ≡ false). nothing ready left (counted.no_effect is_not ∙ sym (in_call.none was_not)))
+      (λ (is_not : now.struck ≡ false). nothing was.struck now.struck ready left (counted.no_effect is_not ∙ sym (in_call.none was_not))
+      (strikes_still was.struck now.struck is_not))
       (cases_Bool now.struck))
       (cases_Bool was.struck)
 
@@ -88,7 +114,7 @@ module _ (meaning : Meaning) (sizes : MapSizes) (was now : GoingView) (before re
 
   -- a turn that ends the call
   pub done_effect : (answer : Answer) → now.struck ≡ took_effect answer → Says meaning sizes was.call before left answer
-      → Effects ready left
+      → Effects was.struck now.struck ready left
   done_effect (Said r) is says =
       let one = placed was.call r says.place in
       ⊎_elim
@@ -100,19 +126,24 @@ module _ (meaning : Meaning) (sizes : MapSizes) (was now : GoingView) (before re
       (λ (unchanged : changes r ≡ false).
       ⊎_elim
       (λ (was_so : was.struck ≡ true). absurd (true≢false (sym (turn.same.struck was_so) ∙ (is ∙ unchanged))))
-      (λ (was_not : was.struck ≡ false).
-      ([], none (ap places_of says.mine ∙ (placed_other before.mine one unchanged ∙ ap places_of (sym (in_call.none was_not))))))
+      (λ (was_not : was.struck ≡ false). (
+        [],
+        none (ap places_of says.mine ∙ (placed_other before.mine one unchanged ∙ ap places_of (sym (in_call.none was_not)))),
+        uncounted was.struck now.struck (strikes_still was.struck now.struck (is ∙ unchanged)),
+      ))
       (cases_Bool was.struck))
       (cases_Bool (changes r))
   done_effect Full is says =
       ⊎_elim
       (λ (was_so : was.struck ≡ true). absurd (true≢false (sym (turn.same.struck was_so) ∙ is)))
-      (λ (was_not : was.struck ≡ false). nothing ready left (says.mine ∙ sym (in_call.none was_not)))
+      (λ (was_not : was.struck ≡ false). nothing was.struck now.struck ready left (says.mine ∙ sym (in_call.none was_not))
+      (strikes_still was.struck now.struck is))
       (cases_Bool was.struck)
   done_effect (Lost turns) is says =
       ⊎_elim
       (λ (was_so : was.struck ≡ true). absurd (true≢false (sym (turn.same.struck was_so) ∙ is)))
-      (λ (was_not : was.struck ≡ false). nothing ready left (says.mine ∙ sym (in_call.none was_not)))
+      (λ (was_not : was.struck ≡ false). nothing was.struck now.struck ready left (says.mine ∙ sym (in_call.none was_not))
+      (strikes_still was.struck now.struck is))
       (cases_Bool was.struck)
 
 -- What closing tells of the passes.
@@ -142,8 +173,9 @@ closed_of meaning sizes passes contents free run closing callers = record {
 
 -- a caller's turn, as the order of steps and the log see it
 pub turn_advances : (meaning : Meaning) (sizes : MapSizes) (races c : ℕ) (told : NoteView) (v w : CallerAt)
-    → CallerTurn meaning sizes races told v w → v.pass.caller ≡ c → InCall v
+    → (t : CallerTurn meaning sizes races told v w) → v.pass.caller ≡ c → InCall v
     → (places : List ℕ) × Advances meaning.turn_steps told c v.pass w.pass places
+    × (length places ≡ count_after t.going.struck t.now.struck 0)
 turn_advances meaning sizes races c told v w t own in_call =
     let caller : t.ready.caller ≡ c = ap (λ (p : PassView). p.caller) t.learnt.same ∙ own in
     let mine : t.ready.mine ≡ v.pass.mine = ap (λ (p : PassView). p.mine) t.learnt.same in
@@ -164,6 +196,7 @@ turn_advances meaning sizes races c told v w t own in_call =
         least_steps = t.turn.stepped;
         effect = effects.1;
       },
+      effects.2,
     )
   where
     kept : Has races v t.going t.before w.calls → t.ready.mine ≡ v.pass.mine → Entering t.going t.before t.ready
@@ -178,7 +211,8 @@ turn_advances meaning sizes races c told v w t own in_call =
       taken = λ so. absurd (true≢false (sym so ∙ begun.untouched));
     }
 
-    by_leaves : Leaves meaning sizes t.going t.now t.before v w → Entering t.going t.before t.ready → Effects t.ready w.pass
+    by_leaves : Leaves meaning sizes t.going t.now t.before v w → Entering t.going t.before t.ready
+        → Effects t.going.struck t.now.struck t.ready w.pass
     by_leaves (on doing answers counted) e = on_effect meaning sizes t.going t.now t.before t.ready w.pass t.turn e counted
     by_leaves (done answer doing answers is made) e =
         done_effect meaning sizes t.going t.now t.before t.ready w.pass t.turn e answer is made.says

@@ -1,18 +1,18 @@
 -- The changes stand in the log in the order of the turns in which they took effect.
-use Rattle.std.proofs.Common.{◌≡◌, ◌≢◌, ℕ, zero, suc, ◌+◌, ◌-◌, ◌<◌, ◌≤◌, Bool, true, false, cond, eqb, List, [], ◌∷◌, ◌++◌, length, map}
-use Rattle.std.proofs.Common.{Some, ⊎_elim, ◌⊎◌, inl, inr, refl, sym, ap, ◌∙◌, subst, arith, length-append}
-use Rattle.std.proofs.Common.{eq-eqb, ne_eqb}
+use Rattle.std.proofs.Common.{◌≡◌, ℕ, zero, suc, ◌+◌, ◌<◌, ◌≤◌, true, List, [], ◌∷◌, ◌++◌, length}
+use Rattle.std.proofs.Common.{Some, ⊎_elim, ◌⊎◌, inl, inr, refl, sym, ap, ◌∙◌, subst, arith}
+use Rattle.std.proofs.Common.{eq-eqb}
 use Rattle.std.specs.Prelude.{slice_get, nat_eq}
 use Rattle.std.proofs.lemmas.Bool.{cases_eq, cases_Bool}
 use Rattle.std.proofs.lemmas.Option.{slice_get_within}
 use Rattle.pp_model.specs.declared.Change.{Change}
 use Rattle.pp_model.specs.declared.steps.OrderEntry.{OrderEntry}
-use Rattle.pp_model.specs.Lists.{AtEach, IsPrefix, RisesFrom, upto}
-use Rattle.pp_model.specs.History.{Stands, places_of, places_in, places_from}
-use Rattle.pp_model.specs.Pass.{PassView, NoteView}
+use Rattle.pp_model.specs.Lists.{IsPrefix, RisesFrom, upto}
+use Rattle.pp_model.specs.History.{places_of, places_from}
+use Rattle.pp_model.specs.Pass.{PassView}
 use Rattle.pp_model.proofs.Histories.{slice_get-append_left, slice_get-append_right, slice_get_push}
-use Rattle.pp_model.proofs.Chains.{IsPrefix-refl, IsPrefix-trans}
-use Rattle.pp_schedule.specs.Schedule.{Effect, none, struck, Advances, State, Turn, OneTurn, Runs, stop, more, places_in_turn}
+use Rattle.pp_model.proofs.Chains.{IsPrefix-trans}
+use Rattle.pp_schedule.specs.Schedule.{Effect, none, struck, State, Turn, Runs, stop, more, places_in_turn}
 use Rattle.pp_schedule.specs.Schedule.{Closed, Opens}
 use Rattle.pp_schedule.proofs.Orders.{prefix_length, within_get}
 

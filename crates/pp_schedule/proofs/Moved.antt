@@ -1,5 +1,5 @@
 -- One caller's turn among all callers of a schedule.
-use Rattle.std.proofs.Common.{◌≡◌, ◌≢◌, ℕ, zero, suc, ◌+◌, ◌-◌, ◌^◌, ◌<◌, ◌≤◌, List, [], ◌∷◌, ◌++◌, length, drop, set, Option}
+use Rattle.std.proofs.Common.{◌≡◌, ◌≢◌, ℕ, zero, suc, ◌+◌, ◌-◌, ◌^◌, ◌<◌, ◌≤◌, List, [], ◌∷◌, length, drop, set, map, Option}
 use Rattle.std.proofs.Common.{Some, None, ⊎_elim, refl, sym, ap, ◌∙◌, subst, arith}
 use Rattle.std.proofs.Common.{length-append}
 use Rattle.std.specs.Prelude.{slice_get, IfSome, IsSomeAnd, vec_capacity}
@@ -11,11 +11,10 @@ use Rattle.pp_model.specs.Pass.{PassView, GoingView, NoteView, MapSizes, Meaning
 use Rattle.pp_model.specs.MapCalls.{Notes}
 use Rattle.pp_schedule.specs.declared.caller.Caller.{Caller}
 use Rattle.pp_schedule.specs.declared.call_future.CallFuture.{CallFuture}
-use Rattle.pp_schedule.specs.Calls.{IsCalling, CallerAt, Doing, Has, goes_on, begins, Leaves, on, done, CallerTurn, Shows}
-use Rattle.pp_schedule.specs.Calls.{rests, calls_on, CanLearn}
-use Rattle.pp_schedule.specs.Plays.{Moment, Answered, Move, Plays}
+use Rattle.pp_schedule.specs.Calls.{CallerAt, Doing, Has, goes_on, begins, Leaves, on, done, CallerTurn, Shows, Marks}
+use Rattle.pp_schedule.specs.Calls.{rests, calls_on, CanLearn, capped, all_capped, answers_of, marks_of}
+use Rattle.pp_schedule.specs.Plays.{Moment, Move}
 use Rattle.pp_schedule.specs.Seats.{SeenAs, MayGoOn, AllSeen, AllMayGoOn}
-use Rattle.pp_schedule.proofs.Shown.{some_at}
 
 pub some_same : {A : Type 0} {a b : A} → Some a ≡ Some b → a ≡ b
 some_same {A} {a} {b} e = cc
@@ -36,6 +35,13 @@ pub set_length : {A : Type 0} → (xs : List A) (k : ℕ) (y : A) → length (se
 set_length [] k y = refl
 set_length (x ∷ xs) zero y = refl
 set_length (x ∷ xs) (suc k) y = ap suc (set_length xs k y)
+
+-- an element that is replaced by one that shows the same leaves what the list shows
+pub set_shown : {A B : Type 0} (f : A → B) (xs : List A) (k : ℕ) (x y : A) → slice_get xs k ≡ Some x → f y ≡ f x
+    → map f (set xs k y) ≡ map f xs
+set_shown f [] k x y at e = refl
+set_shown f (z ∷ xs) zero x y at e = ap (λ v. v ∷ map f xs) (e ∙ ap f (sym (some_same at)))
+set_shown f (z ∷ xs) (suc k) x y at e = ap (λ l. f z ∷ l) (set_shown f xs k x y at e)
 
 module _ {M P G N W : Type 0} (belongs : P → Type 0) (idle : P → Type 0) (under_way : P → G → PassView → Type 0)
     (learnable : P → N → Type 0) (view : P → PassView) (going_view : P → G → GoingView) (this : M)
@@ -133,17 +139,19 @@ module _ {M P G N W : Type 0} (belongs : P → Type 0) (idle : P → Type 0) (un
         → AllMayGoOn belongs idle under_way learnable view going_view this note xs s.callers
         → slice_get xs c ≡ Some x → slice_get s.callers c ≡ Some v
         → x'.calls ≡ x.calls → vec_capacity x.answers ≤ vec_capacity x'.answers → IfSome x'.call (λ f. f.map.now ≡ this)
-        → Learner note' x'.pass x'.call → Shown w x'.pass x'.call → w.calls ≡ drop x'.next x'.calls.items → w.answers ≡ x'.answers.items
-        → CallerTurn meaning sizes races s.told v w → Notes w.pass told'
-        → (t : Moment) × Move meaning sizes races s c t × (told' ≡ t.told)
+        → Learner note' x'.pass x'.call → Shown w x'.pass x'.call → w.calls ≡ drop x'.next x'.calls.items
+        → w.answers ≡ answers_of x'.answers.items → all_capped w.marks ≡ marks_of x'.answers.items
+        → capped w.mark ≡ x'.mark → (turn : CallerTurn meaning sizes races s.told v w) → Notes w.pass told'
+        → (count changes : ℕ) → changes ≡ capped count → Marks turn.going turn.now s.count count v w
+        → (t : Moment) × Move meaning sizes races s c t × (told' ≡ t.told) × (changes ≡ capped t.count)
         × AllSeen belongs idle under_way learnable view going_view this (set xs c x') t.callers
         × AllMayGoOn belongs idle under_way learnable view going_view this note' (set xs c x') t.callers
-    moved s c xs note note' told' x x' v w seen may is_x is_v calls capacity maps learns shows left answers turn noted =
+    moved s c xs note note' told' x x' v w seen may is_x is_v calls capacity maps learns shows left answers marks mark turn noted count changes counted marked =
         let within_x = slice_get_within xs c x is_x in
         let within_v = slice_get_within s.callers c v is_v in
         let was = seen.each c x v is_x is_v in
         let caller : w.pass.caller ≡ c = turn.turn.grew.caller ∙ (ap (λ (p : PassView). p.caller) turn.learnt.same ∙ was.caller) in
-        let t : Moment = record { callers = set s.callers c w; told = told' } in (
+        let t : Moment = record { callers = set s.callers c w; told = told'; count = count } in (
           t,
           record {
             was = v;
@@ -153,9 +161,11 @@ module _ {M P G N W : Type 0} (belongs : P → Type 0) (idle : P → Type 0) (un
             others = λ d other. set_there s.callers c w d other;
             as_many = set_length s.callers c w;
             turn = turn;
+            marks = marked;
             noted = noted;
           },
           refl,
+          counted,
           record {
             lengths = set_length s.callers c w ∙ (seen.lengths ∙ sym (set_length xs c x'));
             each = λ k y u at_y at_u.
@@ -166,7 +176,15 @@ module _ {M P G N W : Type 0} (belongs : P → Type 0) (idle : P → Type 0) (un
                 ∙ (ap (slice_get (set s.callers c w)) (sym same) ∙ at_u)) in
                 subst (λ (z : Caller M P G N W). SeenAs belongs idle under_way learnable view going_view this k z u) is_y
                 (subst (λ (z : CallerAt). SeenAs belongs idle under_way learnable view going_view this k x' z) is_u
-                (record { shows = shows; calls = left; answers = answers; maps = maps; caller = caller ∙ sym same })))
+                (record {
+                  shows = shows;
+                  calls = left;
+                  answers = answers;
+                  marks = marks;
+                  mark = mark;
+                  maps = maps;
+                  caller = caller ∙ sym same;
+                })))
                 (λ (other : k ≡ c → ⊥).
                 seen.each k y u (sym (set_there xs c x' k other) ∙ at_y) (sym (set_there s.callers c w k other) ∙ at_u))
                 (cases_eq k c);

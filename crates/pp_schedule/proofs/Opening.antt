@@ -1,5 +1,5 @@
 -- One caller before its first turn.
-use Rattle.std.proofs.Common.{◌≡◌, ℕ, zero, suc, ◌+◌, ◌^◌, ◌-◌, ◌<◌, ◌≤◌, List, [], ◌∷◌, ◌++◌, length, drop, Option, Some, None}
+use Rattle.std.proofs.Common.{◌≡◌, ℕ, zero, suc, ◌^◌, ◌-◌, ◌≤◌, List, [], ◌∷◌, length, drop, map, Option, Some, None}
 use Rattle.std.proofs.Common.{refl, sym, ap, ◌∙◌, subst, arith}
 use Rattle.std.specs.Prelude.{slice_get, vec_capacity, IfSome}
 use Rattle.pp_model.specs.declared.Call.{Call}
@@ -7,8 +7,9 @@ use Rattle.pp_model.specs.Lists.{AtEach}
 use Rattle.pp_model.specs.Calls.{key_of}
 use Rattle.pp_model.specs.Pass.{PassView, GoingView}
 use Rattle.pp_schedule.specs.declared.caller.Caller.{Caller}
+use Rattle.pp_schedule.specs.declared.caller.Marked.{Marked}
 use Rattle.pp_schedule.specs.declared.call_future.CallFuture.{CallFuture}
-use Rattle.pp_schedule.specs.Calls.{CallerAt, Doing, Shows, rests, CanLearn}
+use Rattle.pp_schedule.specs.Calls.{CallerAt, Shows, rests, CanLearn}
 use Rattle.pp_schedule.specs.Opened.{opened_alone}
 use Rattle.pp_schedule.specs.Seats.{SeenAs, MayGoOn, AllSeen, AllMayGoOn}
 
@@ -16,12 +17,12 @@ module _ {M P G N W : Type 0} (belongs : P → Type 0) (idle : P → Type 0) (un
     (learnable : P → N → Type 0) (view : P → PassView) (going_view : P → G → GoingView) (this : M)
     (note : N) (p : P) (x : Caller M P G N W) (pass : PassView) (calls : List Call)
     (is_pass : x.pass ≡ Some p) (no_call : x.call ≡ None) (first : x.next ≡ 0) (calls_are : x.calls.items ≡ calls)
-    (no_answer : x.answers.items ≡ [])
+    (no_answer : x.answers.items ≡ []) (unmarked : x.mark ≡ 0)
     (own : belongs p) (rested : idle p) (pass_is : view p ≡ pass) (caller : pass.caller ≡ 0)
     (keys : AtEach calls (λ k call. key_of call ≤ 2 ^ 64 - 4))
     (room : length calls ≤ pass.room) (space : length calls ≤ vec_capacity x.answers) (learns : learnable p note) where
   abbrev start : CallerAt
-  start = record { pass = pass; doing = None; calls = calls; answers = [] }
+  start = record { pass = pass; doing = None; calls = calls; answers = []; mark = 0; marks = [] }
 
   abbrev ShownBy : Option P → Option (CallFuture M P G N W) → Type 0
   ShownBy o f = Shows belongs idle under_way view going_view (λ (h : CallFuture M P G N W). h.parts) start o f
@@ -33,7 +34,9 @@ module _ {M P G N W : Type 0} (belongs : P → Type 0) (idle : P → Type 0) (un
   is_seen = record {
     shows = subst (λ o. ShownBy o x.call) (sym is_pass) (subst (λ f. ShownBy (Some p) f) (sym no_call) (rests p own rested pass_is refl));
     calls = sym calls_are ∙ ap (λ j. drop j x.calls.items) (sym first);
-    answers = sym no_answer;
+    answers = sym (ap (map (λ (a : Marked). a.answer)) no_answer);
+    marks = sym (ap (map (λ (a : Marked). a.mark)) no_answer);
+    mark = sym unmarked;
     maps = subst (λ (o : Option (CallFuture M P G N W)). IfSome o (λ f. f.map.now ≡ this)) (sym no_call) tt;
     caller = caller;
   }

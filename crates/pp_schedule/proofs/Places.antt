@@ -1,6 +1,6 @@
 -- The place of a call that changes nothing, as it is found from the whole log.
-use Rattle.std.proofs.Common.{◌≡◌, ◌≢◌, ℕ, zero, suc, ◌+◌, ◌-◌, ◌<◌, ◌≤◌, Bool, true, false, List, [], ◌∷◌, ◌++◌, length, drop}
-use Rattle.std.proofs.Common.{refl, sym, ap, ◌∙◌, subst, arith, length-append, append_assoc}
+use Rattle.std.proofs.Common.{◌≡◌, ℕ, ◌+◌, ◌<◌, ◌≤◌, Bool, true, false, List, [], ◌∷◌, ◌++◌, length, drop}
+use Rattle.std.proofs.Common.{refl, sym, ap, ◌∙◌, arith, append_assoc}
 use Rattle.std.specs.Prelude.{slice_get, Some}
 use Rattle.pp_model.specs.declared.Change.{Change}
 use Rattle.pp_model.specs.declared.Call.{Call}
@@ -9,14 +9,14 @@ use Rattle.pp_model.specs.declared.Placed.{Placed}
 use Rattle.pp_model.specs.declared.steps.Step.{Step}
 use Rattle.pp_model.specs.Lists.{IsPrefix}
 use Rattle.pp_model.specs.Calls.{reply, changes}
-use Rattle.pp_model.specs.History.{after, Stands, FitsBy, FitsUnchanged}
+use Rattle.pp_model.specs.History.{after, Stands, FitsBy}
 use Rattle.pp_model.specs.Pass.{PassView, steps_since, seen_first, start_of}
 use Rattle.pp_model.specs.MapCalls.{PlacesReply, placed}
 use Rattle.pp_model.proofs.Histories.{slice_get_new, after_grown}
 use Rattle.pp_schedule.proofs.Starts.{one_place}
 
 -- the reply is right at the place that stands
-right_at : (b : Bool) (log : List Change) (caller number : ℕ) (s : Placed) → b ≡ false → FitsBy b log caller number s
+pub right_at : (b : Bool) (log : List Change) (caller number : ℕ) (s : Placed) → b ≡ false → FitsBy b log caller number s
     → reply (after log s.place) s.call ≡ s.reply
 right_at true log caller number s e f = absurd (let wrong : true ≡ false = e in cc)
 right_at false log caller number s e f = f.right
@@ -46,7 +46,7 @@ pub drop_front : {A : Type 0} → (xs ys : List A) → drop (length xs) (xs ++ y
 drop_front [] ys = refl
 drop_front (x ∷ xs) ys = drop_front xs ys
 
-first_kept : (d e : ℕ) (xs ys : List Step) → 1 ≤ length xs → seen_first d (xs ++ ys) ≡ seen_first e xs
+pub first_kept : (d e : ℕ) (xs ys : List Step) → 1 ≤ length xs → seen_first d (xs ++ ys) ≡ seen_first e xs
 first_kept d e [] ys some = absurd (omega (arith, some))
 first_kept d e (x ∷ xs) ys some = refl
 

@@ -1,17 +1,14 @@
 -- A run by a plan makes its turns in the plan's order, and is a run of turns.
-use Rattle.std.proofs.Common.{◌≡◌, ◌≢◌, ℕ, zero, suc, ◌+◌, ◌-◌, ◌<◌, ◌≤◌, Bool, true, false, cond, List, [], ◌∷◌, ◌++◌, length}
-use Rattle.std.proofs.Common.{map, replicate}
-use Rattle.std.proofs.Common.{Option, option_map, Some, None, ⊎_elim, refl, sym, ap, ◌∙◌, subst, arith, eq-eqb, ne_eqb}
+use Rattle.std.proofs.Common.{◌≡◌, ◌≢◌, ℕ, zero, suc, ◌+◌, ◌-◌, ◌<◌, ◌≤◌, true, false, cond, List, [], ◌∷◌, ◌++◌, length}
+use Rattle.std.proofs.Common.{replicate}
+use Rattle.std.proofs.Common.{Some, ⊎_elim, refl, sym, ap, ◌∙◌, arith, eq-eqb, ne_eqb}
 use Rattle.std.specs.Prelude.{slice_get, nat_eq}
-use Rattle.std.proofs.lemmas.Bool.{cases_eq, cases_Bool}
-use Rattle.std.proofs.lemmas.Option.{slice_get-map, slice_get_within}
-use Rattle.pp_model.specs.Lists.{AtEach, times}
-use Rattle.pp_model.specs.Pass.{PassView, MapSizes, Meaning}
-use Rattle.pp_schedule.specs.Schedule.{State, Turn, OneTurn, Runs, stop, more, callers_of}
-use Rattle.pp_schedule.specs.Calls.{Entering, CallerAt, Doing, Has, goes_on, begins, Leaves, on, done, CallerTurn, InCall}
-use Rattle.pp_schedule.specs.Plays.{less_one, rising, turns_by, Moment, state_of, Answered, Move, Plays, ended, passed, planned, rest}
-use Rattle.pp_schedule.proofs.Effects.{turn_advances}
-use Rattle.pp_schedule.proofs.Orders.{within_get}
+use Rattle.std.proofs.lemmas.Bool.{cases_eq}
+use Rattle.std.proofs.lemmas.Option.{slice_get_within}
+use Rattle.pp_model.specs.Lists.{times}
+use Rattle.pp_model.specs.Pass.{MapSizes, Meaning}
+use Rattle.pp_schedule.specs.Calls.{CallerAt, Has, goes_on, begins, CallerTurn}
+use Rattle.pp_schedule.specs.Plays.{less_one, rising, turns_by, Moment, Answered, Move, Plays, ended, passed, planned, rest}
 
 replicate_none : (n k : ℕ) → n ≡ 0 → replicate n k ≡ []
 replicate_none zero k e = refl

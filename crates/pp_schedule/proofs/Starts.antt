@@ -1,28 +1,27 @@
 -- How much of the log a call had seen at its first step: the changes that took effect in the turns before.
-use Rattle.std.proofs.Common.{◌≡◌, ◌≢◌, ℕ, zero, suc, ◌+◌, ◌-◌, ◌<◌, ◌≤◌, List, [], ◌∷◌, ◌++◌, length, map, drop}
-use Rattle.std.proofs.Common.{Some, ⊎_elim, ◌⊎◌, inl, inr, refl, sym, ap, ◌∙◌, subst, arith, length-append, append_assoc}
-use Rattle.std.specs.Prelude.{slice_get}
+use Rattle.std.proofs.Common.{◌≡◌, ℕ, zero, suc, ◌+◌, ◌<◌, ◌≤◌, List, [], ◌∷◌, ◌++◌, length}
+use Rattle.std.proofs.Common.{⊎_elim, refl, sym, ap, ◌∙◌, subst, arith, append_assoc}
 use Rattle.std.proofs.lemmas.Bool.{cases_lt}
 use Rattle.pp_model.specs.declared.Change.{Change}
 use Rattle.pp_model.specs.declared.Call.{Call}
 use Rattle.pp_model.specs.declared.Reply.{Reply}
 use Rattle.pp_model.specs.declared.steps.Step.{Step}
 use Rattle.pp_model.specs.declared.steps.OrderEntry.{OrderEntry}
-use Rattle.pp_model.specs.Lists.{AtEach, IsPrefix, upto, RisesFrom}
+use Rattle.pp_model.specs.Lists.{AtEach, upto, RisesFrom}
 use Rattle.pp_model.specs.Calls.{reply}
 use Rattle.pp_model.specs.History.{after}
-use Rattle.pp_model.specs.Pass.{PassView, NoteView, GoingView, Meaning, steps_since, seen_first, start_of}
+use Rattle.pp_model.specs.Pass.{PassView, steps_since, seen_first}
 use Rattle.pp_model.specs.MapCalls.{Grew}
-use Rattle.pp_schedule.specs.Schedule.{State, Turn, OneTurn, Runs, stop, more, places_in_turn, Closed, Opens}
+use Rattle.pp_schedule.specs.Schedule.{State, Turn, Runs, stop, more, places_in_turn, Closed, Opens}
 use Rattle.pp_schedule.proofs.Orders.{prefix_length}
 use Rattle.pp_schedule.proofs.Logs.{Has, split_has, places_rise, changes_in_turns, effect_within}
 
-runs_on : (least : ℕ) (s t u : State) (xs ys : List Turn) → Runs least s xs t → Runs least t ys u → Runs least s (xs ++ ys) u
+pub runs_on : (least : ℕ) (s t u : State) (xs ys : List Turn) → Runs least s xs t → Runs least t ys u → Runs least s (xs ++ ys) u
 runs_on least s t u xs ys (stop _) later = later
 runs_on least s t u xs ys (more _ m _ turn rest one runs) later = more s m u turn (rest ++ ys) one
     (runs_on least m t u rest ys runs later)
 
-places_on : (xs ys : List Turn) → places_in_turn (xs ++ ys) ≡ places_in_turn xs ++ places_in_turn ys
+pub places_on : (xs ys : List Turn) → places_in_turn (xs ++ ys) ≡ places_in_turn xs ++ places_in_turn ys
 places_on [] ys = refl
 places_on (t ∷ xs) ys = ap (λ zs. t.places ++ zs) (places_on xs ys) ∙ sym (append_assoc t.places (places_in_turn xs) (places_in_turn ys))
 

@@ -1,16 +1,16 @@
 -- What a run by a plan left on a closed map.
-use Rattle.std.proofs.Common.{◌≡◌, ◌≢◌, ℕ, zero, suc, ◌+◌, ◌-◌, ◌<◌, ◌≤◌, Bool, true, false, cond, List, [], ◌∷◌, ◌++◌, length, map}
-use Rattle.std.proofs.Common.{Option, option_map, Some, None, ⊎_elim, refl, sym, ap, ◌∙◌, subst, arith}
+use Rattle.std.proofs.Common.{◌≡◌, ℕ, suc, List, [], ◌∷◌, length, map}
+use Rattle.std.proofs.Common.{option_map, Some, ⊎_elim, refl, sym, ap, ◌∙◌, subst}
 use Rattle.std.specs.Prelude.{slice_get}
 use Rattle.std.proofs.lemmas.Bool.{cases_eq, true≢false}
 use Rattle.std.proofs.lemmas.Option.{slice_get-map}
 use Rattle.pp_model.specs.declared.Pair.{Pair}
-use Rattle.pp_model.specs.Lists.{AtEach, times, upto}
+use Rattle.pp_model.specs.Lists.{AtEach}
 use Rattle.pp_model.specs.Pass.{PassView, NoteView, MapSizes, Meaning, RunView}
 use Rattle.pp_model.specs.MapCalls.{IsClosing}
-use Rattle.pp_schedule.specs.Schedule.{State, Turn, OneTurn, Runs, stop, more, callers_of, places_in_turn, Opens}
-use Rattle.pp_schedule.specs.Calls.{Entering, CallerAt, Doing, Has, goes_on, begins, Leaves, on, done, CallerTurn, InCall}
-use Rattle.pp_schedule.specs.Plays.{turns_by, Moment, state_of, Answered, Move, Plays, ended, passed, planned, rest, RunsByPlan}
+use Rattle.pp_schedule.specs.Schedule.{Turn, OneTurn, Runs, stop, more, callers_of, Opens}
+use Rattle.pp_schedule.specs.Calls.{Entering, CallerAt, Doing, Has, goes_on, begins, Leaves, on, done, CallerTurn, InCall, count_after}
+use Rattle.pp_schedule.specs.Plays.{Moment, state_of, Move, Plays, ended, passed, planned, rest, RunsByPlan}
 use Rattle.pp_schedule.proofs.Effects.{turn_advances, on_entering, closed_of}
 use Rattle.pp_schedule.proofs.Orders.{order_in_turns}
 use Rattle.pp_schedule.proofs.Logs.{changes_in_turns}
@@ -47,7 +47,7 @@ module _ (meaning : Meaning) (sizes : MapSizes) (races : ℕ) where
           (on_entering meaning sizes t.going t.now t.before t.ready w.pass t.turn (ready_entering t.has) counted)
       by (done answer is answers struck made) = absurd (let e = sym is ∙ at in cc)
 
-  sound_stays : (s t : Moment) (c : ℕ) → Move meaning sizes races s c t → Sound s → Sound t
+  pub sound_stays : (s t : Moment) (c : ℕ) → Move meaning sizes races s c t → Sound s → Sound t
   sound_stays s t c move sound k v at =
       ⊎_elim
       (λ (same : k ≡ c).
@@ -59,15 +59,16 @@ module _ (meaning : Meaning) (sizes : MapSizes) (races : ℕ) where
       (λ (other : k ≡ c → ⊥). sound k v (sym (move.others k other) ∙ at))
       (cases_eq k c)
 
-  pass_at : (vs : List CallerAt) (k : ℕ) (v : CallerAt) → slice_get vs k ≡ Some v → slice_get (map (λ x. x.pass) vs) k ≡ Some v.pass
+  pub pass_at : (vs : List CallerAt) (k : ℕ) (v : CallerAt) → slice_get vs k ≡ Some v → slice_get (map (λ x. x.pass) vs) k ≡ Some v.pass
   pass_at vs k v at = slice_get-map (λ (x : CallerAt). x.pass) vs k ∙ ap (option_map (λ (x : CallerAt). x.pass)) at
 
-  many_of : (vs : List CallerAt) → length (map (λ x. x.pass) vs) ≡ length vs
+  pub many_of : (vs : List CallerAt) → length (map (λ x. x.pass) vs) ≡ length vs
   many_of [] = refl
   many_of (v ∷ vs) = ap suc (many_of vs)
 
-  one_turn : (s t : Moment) (c : ℕ) → Move meaning sizes races s c t → Sound s
+  pub one_turn : (s t : Moment) (c : ℕ) → (move : Move meaning sizes races s c t) → Sound s
       → (turn : Turn) × (turn.caller ≡ c) × OneTurn meaning.turn_steps (state_of s) turn (state_of t)
+      × (length turn.places ≡ count_after move.turn.going.struck move.turn.now.struck 0)
   one_turn s t c move sound =
       let had = sound c move.was move.is_was in
       let a = turn_advances meaning sizes races c s.told move.was move.now move.turn had.0 had.1 in
@@ -88,13 +89,14 @@ module _ (meaning : Meaning) (sizes : MapSizes) (races : ℕ) where
           told_order = move.noted.order;
           told_seen = move.noted.seen;
         },
+        a.2,
       )
 
-  record RunOf (s t : Moment) (turns : List ℕ) : Type 0 where
-    moves : List Turn
-    of_turns : callers_of moves ≡ turns
-    runs : Runs meaning.turn_steps (state_of s) moves (state_of t)
-    as_many : length t.callers ≡ length s.callers
+  pub record RunOf (s t : Moment) (turns : List ℕ) : Type 0 where
+    pub moves : List Turn
+    pub of_turns : callers_of moves ≡ turns
+    pub runs : Runs meaning.turn_steps (state_of s) moves (state_of t)
+    pub as_many : length t.callers ≡ length s.callers
 
   run_more : (s t u : Moment) (c : ℕ) (turns : List ℕ) → Move meaning sizes races s c t → Sound s → RunOf t u turns
       → RunOf s u (c ∷ turns)
@@ -107,7 +109,7 @@ module _ (meaning : Meaning) (sizes : MapSizes) (races : ℕ) where
         as_many = r.as_many ∙ move.as_many;
       }
 
-  run_of : (plan : List ℕ) (s t : Moment) (turns : List ℕ) → Plays meaning sizes races plan s turns t → Sound s → RunOf s t turns
+  pub run_of : (plan : List ℕ) (s t : Moment) (turns : List ℕ) → Plays meaning sizes races plan s turns t → Sound s → RunOf s t turns
   run_of plan s t turns (ended _ all) sound = record { moves = []; of_turns = refl; runs = stop (state_of s); as_many = refl }
   run_of plan s t turns (passed c plan' _ _ _ over plays) sound = run_of plan' s t turns plays sound
   run_of plan s t turns (planned c plan' _ m _ later move plays) sound =

@@ -1,13 +1,13 @@
 -- Callers with their calls, turn by turn, as a schedule polls them.
-use Rattle.std.specs.Prelude.{◌≡◌, ℕ, ◌++◌, Bool, true, false, List, [], ◌∷◌, length, map, Option, Some, None, slice_get}
-use Rattle.std.specs.Prelude.{IfSome, IsSomeAnd}
+use Rattle.std.specs.Prelude.{◌≡◌, ℕ, ◌+◌, ◌-◌, ◌^◌, min, ◌++◌, Bool, true, false, cond, not, ◌&&◌, List, [], ◌∷◌, map}
+use Rattle.std.specs.Prelude.{Option, Some, None, IfSome, IsSomeAnd, is_some}
 use Rattle.pp_model.specs.declared.Call.{Call}
 use Rattle.pp_model.specs.declared.Answer.{Answer}
 use Rattle.pp_model.specs.declared.Placed.{Placed}
-use Rattle.pp_model.specs.Lists.{AtEach}
+use Rattle.pp_schedule.specs.declared.caller.Marked.{Marked}
 use Rattle.pp_model.specs.Calls.{changes}
 use Rattle.pp_model.specs.Pass.{PassView, GoingView, NoteView, MapSizes, Meaning}
-use Rattle.pp_model.specs.MapCalls.{Begun, Learns, Notes, Counted, AnswersCall, took_effect}
+use Rattle.pp_model.specs.MapCalls.{Begun, Learns, Counted, AnswersCall, took_effect}
 use Rattle.pp_model.specs.MapCalls.{MakesTurn}
 
 -- what is known of a pass's list while a call is going on it
@@ -20,12 +20,15 @@ pub record Doing : Type 0 where
   pub going : GoingView
   pub before : PassView
 
--- a caller: its pass, the call that is going, the calls that aren't begun yet, and the answers so far
+-- a caller: its pass, the call that is going with its mark, the calls that aren't begun yet, and the answers so far with their
+-- calls' marks
 pub record CallerAt : Type 0 where
   pub pass : PassView
   pub doing : Option Doing
   pub calls : List Call
   pub answers : List Answer
+  pub mark : ℕ
+  pub marks : List ℕ
 
 -- The caller has this call going; where none was going it begins its next one.
 pub data Has (races : ℕ) (v : CallerAt) (going : GoingView) (before : PassView) (rest : List Call) : Type 0 where
@@ -50,6 +53,39 @@ pub record CallerTurn (meaning : Meaning) (sizes : MapSizes) (races : ℕ) (told
   pub now : GoingView
   pub turn : MakesTurn meaning going now ready w.pass
   pub leaves : Leaves meaning sizes going now before v w
+
+-- A call took effect in a turn: before it had not, and after it had.
+abbrev pub strikes : Bool → Bool → Bool
+strikes was now = now && not was
+
+-- so many changes took effect up to a turn's end, where there were so many before it
+abbrev pub count_after : Bool → Bool → ℕ → ℕ
+count_after was now n = cond (strikes was now) (n + 1) n
+
+-- A call's mark is the number of changes up to the end of its first turn, and then up to the end of the turn in which it took effect.
+abbrev pub mark_after : Bool → Bool → Bool → ℕ → ℕ → ℕ
+mark_after begun was now n mark = cond (begun && not (strikes was now)) mark n
+
+-- what a turn of a caller's call makes of the number of changes, n before and m after it, and of the call's mark
+pub record Marks (going now : GoingView) (n m : ℕ) (v w : CallerAt) : Type 0 where
+  pub counts : m ≡ count_after going.struck now.struck n
+  pub mark : w.mark ≡ mark_after (is_some v.doing) going.struck now.struck m v.mark
+  pub goes_on : (d : Doing) → w.doing ≡ Some d → w.marks ≡ v.marks
+  pub answered : w.doing ≡ None → w.marks ≡ v.marks ++ w.mark ∷ []
+
+-- a number as 64 bits hold it, the greatest of them for every greater one
+abbrev pub capped : ℕ → ℕ
+capped n = min n (2 ^ 64 - 1)
+
+abbrev pub all_capped : List ℕ → List ℕ
+all_capped ns = map capped ns
+
+-- the answers, and their marks
+abbrev pub answers_of : List Marked → List Answer
+answers_of given = map (λ a. a.answer) given
+
+abbrev pub marks_of : List Marked → List ℕ
+marks_of given = map (λ a. a.mark) given
 
 -- while a call is going, the caller's list is as the call left it
 abbrev pub InCall : CallerAt → Type 0

@@ -7,7 +7,7 @@ use Rattle.pp_model.specs.MapCalls.{Notes}
 use Rattle.pp_model.specs.declared.Change.{Change}
 use Rattle.pp_model.specs.declared.steps.OrderEntry.{OrderEntry}
 use Rattle.pp_schedule.specs.Schedule.{State, Turn, Pieces, callers_of, places_in_turn}
-use Rattle.pp_schedule.specs.Calls.{CallerAt, CallerTurn}
+use Rattle.pp_schedule.specs.Calls.{CallerAt, CallerTurn, Marks}
 
 -- so many turns of each caller, but one less of caller c
 abbrev pub less_one : ℕ → (ℕ → ℕ) → ℕ → ℕ
@@ -24,10 +24,11 @@ abbrev pub turns_by : ℕ → List ℕ → (ℕ → ℕ) → List ℕ
 turns_by callers [] left = rising 0 callers left
 turns_by callers (c ∷ plan) left = cond (nat_eq (left c) 0) (turns_by callers plan left) (c ∷ turns_by callers plan (less_one c left))
 
--- the callers at one moment, and what the last note tells
+-- the callers at one moment, what the last note tells, and how many changes took effect in the turns so far
 pub record Moment : Type 0 where
   pub callers : List CallerAt
   pub told : NoteView
+  pub count : ℕ
 
 abbrev pub state_of : Moment → State
 state_of s = record { passes = map (λ v. v.pass) s.callers; told = s.told }
@@ -37,7 +38,7 @@ pub record Answered (v : CallerAt) : Type 0 where
   pub none_going : v.doing ≡ None
   pub none_left : v.calls ≡ []
 
--- caller c learnt the last note, made one turn of its present call, and left a note
+-- caller c learnt the last note, made one turn of its present call, and left a note; the call was marked
 pub record Move (meaning : Meaning) (sizes : MapSizes) (races : ℕ) (s : Moment) (c : ℕ) (t : Moment) : Type 0 where
   pub was : CallerAt
   pub is_was : slice_get s.callers c ≡ Some was
@@ -46,6 +47,7 @@ pub record Move (meaning : Meaning) (sizes : MapSizes) (races : ℕ) (s : Moment
   pub others : (d : ℕ) → d ≢ c → slice_get t.callers d ≡ slice_get s.callers d
   pub as_many : length t.callers ≡ length s.callers
   pub turn : CallerTurn meaning sizes races s.told was now
+  pub marks : Marks turn.going turn.now s.count t.count was now
   pub noted : Notes now.pass t.told
 
 -- A run by a plan: the callers that made a turn, in order.

@@ -1,13 +1,14 @@
 -- The callers of a schedule, as their parts show them.
-use Rattle.std.specs.Prelude.{◌≡◌, ◌≢◌, ℕ, ◌+◌, ◌-◌, ◌^◌, ◌<◌, ◌≤◌, List, [], ◌∷◌, length, drop, Option, Some, None, slice_get}
-use Rattle.std.specs.Prelude.{IfSome, vec_capacity}
+use Rattle.std.specs.Prelude.{◌≡◌, ℕ, ◌+◌, ◌-◌, ◌^◌, ◌<◌, ◌≤◌, List, [], ◌∷◌, length, drop, Option, Some, None, slice_get}
+use Rattle.std.specs.Prelude.{IfSome, map, vec_capacity, Vec}
+use Rattle.std.specs.Global.{Global}
+use Rattle.pp_model.specs.declared.Call.{Call}
 use Rattle.pp_model.specs.Lists.{AtEach}
 use Rattle.pp_model.specs.Calls.{key_of}
-use Rattle.pp_model.specs.Pass.{PassView, GoingView, NoteView, MapSizes, Meaning}
+use Rattle.pp_model.specs.Pass.{PassView, GoingView}
 use Rattle.pp_schedule.specs.declared.caller.Caller.{Caller}
 use Rattle.pp_schedule.specs.declared.call_future.CallFuture.{CallFuture}
-use Rattle.pp_schedule.specs.Calls.{CallerAt, Doing, Shows, CanLearn}
-use Rattle.pp_schedule.specs.Plays.{Moment, Answered, Plays}
+use Rattle.pp_schedule.specs.Calls.{CallerAt, Doing, Shows, CanLearn, capped, all_capped, answers_of, marks_of}
 
 module _ {M P G N W : Type 0} (belongs : P → Type 0) (idle : P → Type 0) (under_way : P → G → PassView → Type 0)
     (learnable : P → N → Type 0) (view : P → PassView) (going_view : P → G → GoingView) (on : M) where
@@ -15,7 +16,9 @@ module _ {M P G N W : Type 0} (belongs : P → Type 0) (idle : P → Type 0) (un
   pub record SeenAs (k : ℕ) (x : Caller M P G N W) (v : CallerAt) : Type 0 where
     pub shows : Shows belongs idle under_way view going_view (λ (f : CallFuture M P G N W). f.parts) v x.pass x.call
     pub calls : v.calls ≡ drop x.next x.calls.items
-    pub answers : v.answers ≡ x.answers.items
+    pub answers : v.answers ≡ answers_of x.answers.items
+    pub marks : all_capped v.marks ≡ marks_of x.answers.items
+    pub mark : capped v.mark ≡ x.mark
     pub maps : IfSome x.call (λ f. f.map.now ≡ on)
     pub caller : v.pass.caller ≡ k
 
@@ -34,6 +37,10 @@ module _ {M P G N W : Type 0} (belongs : P → Type 0) (idle : P → Type 0) (un
 
   pub record AllMayGoOn (note : N) (xs : List (Caller M P G N W)) (vs : List CallerAt) : Type 0 where
     pub each : (k : ℕ) (x : Caller M P G N W) (v : CallerAt) → slice_get xs k ≡ Some x → slice_get vs k ≡ Some v → MayGoOn note x v
+
+-- the callers' lists of calls
+abbrev pub calls_of : {M P G N W : Type 0} → List (Caller M P G N W) → List (Vec Call Global)
+calls_of xs = map (λ x. x.calls) xs
 
 -- a caller has no call going and none left
 abbrev pub IsOver : {M P G N W : Type 0} → Caller M P G N W → Type 0

@@ -9,7 +9,8 @@ ghost use Rattle.futures.specs.Poll.{IfReady, OnPending};
 ghost use Rattle.pp_model.specs.Pass.{PassView, GoingView};
 ghost use Rattle.pp_model.specs.MapCalls.{AnswersCall, MakesTurn, Counted, Learns, Notes};
 ghost use Rattle.pp_schedule.specs.Turns.{Ends};
-ghost use Rattle.pp_schedule.specs.Calls.{IsCalling, CallerAt, Shows, Has, CanLearn, CallerTurn};
+ghost use Rattle.pp_schedule.specs.Calls.{IsCalling, CallerAt, Shows, Has, CanLearn, CallerTurn, Marks};
+ghost use Rattle.pp_schedule.specs.Calls.{capped, all_capped, count_after, mark_after, answers_of, marks_of};
 ghost use Rattle.pp_schedule.specs.Seats.{IsOver};
 
 use crate::call_future::{CallFuture, Spoken};
@@ -72,8 +73,34 @@ where
     future.note()
 }
 
-/// A caller of a schedule: its calls, the number of those that were begun, its answers, and its idle pass or the call that is
-/// going.
+/// An answer, with its call's mark: how many changes had taken effect at the end of the turn in which the call took effect, or
+/// else at the end of its first turn. The mark 2^64 - 1 stands for every greater number too.
+#[derive(Clone, Copy, Debug, PartialEq, Eq)]
+pub struct Marked {
+    pub answer: Answer,
+    pub mark: u64,
+}
+
+// The number of changes after a turn, from that before it.
+fn count_turn(changes: u64, was: bool, now: bool) -> u64
+    ensures { (n : ℕ) → changes ≡ capped n → result ≡ capped (count_after was now n) }
+{
+    if now && !was {
+        changes.saturating_add(1)
+    } else {
+        changes
+    }
+}
+
+// A call's mark after a turn that left so many changes; the call was going before it or not.
+fn mark_turn(old: u64, on: bool, was: bool, now: bool, changes: u64) -> u64
+    ensures { (n : ℕ) → (m : ℕ) → changes ≡ capped n → old ≡ capped m → result ≡ capped (mark_after on was now n m) }
+{
+    if on && !(now && !was) { old } else { changes }
+}
+
+/// A caller of a schedule: its calls, the number of those that were begun, its answers with their marks, and its idle pass or the
+/// call that is going, with its mark.
 pub struct Caller<'a, M: MapCalls>
 where
     M::Pass: Drop,
@@ -83,7 +110,9 @@ where
     pub calls: Vec<Call>,
     /// How many of them were begun.
     pub next: usize,
-    pub answers: Vec<Answer>,
+    pub answers: Vec<Marked>,
+    /// The mark of the call that is going.
+    pub mark: u64,
     /// Its pass, where no call is going.
     pub pass: Option<M::Pass>,
     /// The call that is going.
@@ -100,6 +129,7 @@ where
             calls: _,
             next: _,
             answers: _,
+            mark: _,
             pass: _,
             call: _,
         } = self;
@@ -112,35 +142,37 @@ where
     M::Going: Drop,
 {
     /// A caller that has begun none of its calls.
-    pub fn new(pass: M::Pass, calls: Vec<Call>, answers: Vec<Answer>) -> Caller<'a, M>
+    pub fn new(pass: M::Pass, calls: Vec<Call>, answers: Vec<Marked>) -> Caller<'a, M>
         ensures parts { (result.pass ≡ Some pass) × (result.call ≡ None) × (result.next ≡ 0) × (result.calls ≡ calls)
-            × (result.answers ≡ answers) }
+            × (result.answers ≡ answers) × (result.mark ≡ 0) }
     {
         Caller {
             calls,
             next: 0,
             answers,
+            mark: 0,
             pass: Some(pass),
             call: None,
         }
     }
 
-    /// Its pass, where no call is going, and the answers so far.
-    pub fn into_parts(self) -> (Option<M::Pass>, Vec<Answer>)
-        ensures { (result.0 ≡ self.entry.pass) × (result.1 ≡ self.entry.answers) }
+    /// Its pass, where no call is going, its calls, and the answers so far with their marks.
+    pub fn into_parts(self) -> (Option<M::Pass>, Vec<Call>, Vec<Marked>)
+        ensures { (result.0 ≡ self.entry.pass) × (result.1 ≡ self.entry.calls) × (result.2 ≡ self.entry.answers) }
     {
         let Caller {
-            calls: _,
+            calls,
             next: _,
             answers,
+            mark: _,
             pass,
             call: _,
         } = self;
-        (pass, answers)
+        (pass, calls, answers)
     }
 
-    /// The answers so far.
-    pub fn answers(&self) -> &[Answer]
+    /// The answers so far, with their marks.
+    pub fn answers(&self) -> &[Marked]
         ensures { result.now ≡ self.now.answers.items }
     {
         &self.answers
@@ -166,6 +198,7 @@ where
         ensures taken { (self.new.pass ≡ None) × (self.new.call ≡ None) }
         ensures calls { self.new.calls ≡ self.old.calls }
         ensures answers { self.new.answers ≡ self.old.answers }
+        ensures mark { self.new.mark ≡ self.old.mark }
         ensures map { result.map.now ≡ map.now }
         ensures learnable { (note : M.Note) → CanLearn (M.Learnable map.now) (λ f. f.parts) self.old.pass self.old.call note
             → (v : CallerAt) → Shows (M.Belongs map.now) M.Idle (M.UnderWay map.now) M.pass_view M.going_view
@@ -187,8 +220,16 @@ where
         }
     }
 
-    /// The caller's pass learns the note and makes one turn of the present call. Gives a note of what it has seen then.
-    pub fn turn(&mut self, map: &'a M, races: u64, note: M::Note, cx: &mut Context<'_>) -> M::Note
+    /// The caller's pass learns the note and makes one turn of the present call. Gives a note of what it has seen then, and the
+    /// number of changes that took effect so far, from that before the turn.
+    pub fn turn(
+        &mut self,
+        map: &'a M,
+        races: u64,
+        note: M::Note,
+        changes: u64,
+        cx: &mut Context<'_>,
+    ) -> (M::Note, u64)
         requires shows { (v : CallerAt) × Shows (M.Belongs map.now) M.Idle (M.UnderWay map.now) M.pass_view M.going_view
             (λ f. f.parts) v self.old.pass self.old.call × (v.calls ≡ drop self.old.next self.old.calls.items) }
         requires maps { IfSome self.old.call (λ f. f.map.now ≡ map.now) }
@@ -202,28 +243,41 @@ where
         ensures calls { self.new.calls ≡ self.old.calls }
         ensures maps { IfSome self.new.call (λ f. f.map.now ≡ map.now) }
         ensures space { vec_capacity self.old.answers ≤ vec_capacity self.new.answers }
-        ensures learnable { CanLearn (M.Learnable map.now) (λ f. f.parts) self.new.pass self.new.call result }
+        ensures learnable { CanLearn (M.Learnable map.now) (λ f. f.parts) self.new.pass self.new.call result.0 }
         ensures shows { (v : CallerAt) → Shows (M.Belongs map.now) M.Idle (M.UnderWay map.now) M.pass_view M.going_view
             (λ f. f.parts) v self.old.pass self.old.call
-            → v.calls ≡ drop self.old.next self.old.calls.items → v.answers ≡ self.old.answers.items
+            → v.calls ≡ drop self.old.next self.old.calls.items → v.answers ≡ answers_of self.old.answers.items
+            → all_capped v.marks ≡ marks_of self.old.answers.items → capped v.mark ≡ self.old.mark
+            → (n : ℕ) → changes ≡ capped n
             → ((w : CallerAt)
             × Shows (M.Belongs map.now) M.Idle (M.UnderWay map.now) M.pass_view M.going_view (λ f. f.parts) w self.new.pass self.new.call
-            × (w.calls ≡ drop self.new.next self.new.calls.items) × (w.answers ≡ self.new.answers.items)
-            × CallerTurn M.meaning (M.sizes map.now) races (M.note_view note) v w × Notes w.pass (M.note_view result)) }
+            × (w.calls ≡ drop self.new.next self.new.calls.items) × (w.answers ≡ answers_of self.new.answers.items)
+            × (all_capped w.marks ≡ marks_of self.new.answers.items) × (capped w.mark ≡ self.new.mark)
+            × ((t : CallerTurn M.meaning (M.sizes map.now) races (M.note_view note) v w) × Notes w.pass (M.note_view result.0)
+            × (m : ℕ) × (result.1 ≡ capped m) × Marks t.going t.now n m v w)) }
     {
+        let on = self.call.is_some();
         let mut future = self.present(map, races);
+        let was = future.struck();
         match poll_after(&mut future, note, cx) {
             Poll::Pending => {
+                let now = future.struck();
+                let changes = count_turn(changes, was, now);
+                self.mark = mark_turn(self.mark, on, was, now, changes);
                 let note = note_of(&mut future);
                 self.call = Some(future);
-                note
+                (note, changes)
             }
             Poll::Ready(spoken) => {
                 let Spoken { mut pass, answer } = spoken;
+                let now = answer.took_effect();
+                let changes = count_turn(changes, was, now);
+                self.mark = mark_turn(self.mark, on, was, now, changes);
                 let note = map.note(&mut pass);
                 self.pass = Some(pass);
-                enter(&mut self.answers, answer);
-                note
+                let mark = self.mark;
+                enter(&mut self.answers, Marked { answer, mark });
+                (note, changes)
             }
         }
     }

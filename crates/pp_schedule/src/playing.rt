@@ -7,13 +7,13 @@ ghost use Rattle.pp_model.specs.Lists.{AtEach};
 ghost use Rattle.pp_model.specs.Calls.{key_of};
 ghost use Rattle.pp_schedule.specs.Opened.{opened_alone};
 ghost use Rattle.pp_schedule.specs.Plays.{Moment, Plays, Answered};
-ghost use Rattle.pp_schedule.specs.Seats.{AllSeen, AllMayGoOn};
+ghost use Rattle.pp_schedule.specs.Seats.{AllSeen, AllMayGoOn, calls_of};
 
-use crate::caller::Caller;
+use crate::caller::{Caller, Marked};
 use crate::runner::Runner;
 use crate::schedule::Schedule;
 use pp_model::lists::enter;
-use pp_model::{Answer, Call, MapCalls};
+use pp_model::{Call, MapCalls};
 use pp_outside::Failed;
 use std::alloc::{AllocGlobal, Global};
 use std::random::RandomSource;
@@ -45,16 +45,16 @@ where
         M.going_view map.now callers.items s.callers
         × AllMayGoOn (M.Belongs map.now) M.Idle (M.UnderWay map.now) (M.Learnable map.now) M.pass_view
         M.going_view map.now note callers.items s.callers
-        × (M.note_view note ≡ s.told) }
+        × (M.note_view note ≡ s.told) × (s.count ≡ 0) }
     ensures played { IfOk result (λ out. (s : Moment)
         → AllSeen (M.Belongs map.now) M.Idle (M.UnderWay map.now) (M.Learnable map.now) M.pass_view
         M.going_view map.now callers.entry.items s.callers
         → AllMayGoOn (M.Belongs map.now) M.Idle (M.UnderWay map.now) (M.Learnable map.now) M.pass_view
         M.going_view map.now note callers.entry.items s.callers
-        → M.note_view note ≡ s.told
+        → M.note_view note ≡ s.told → s.count ≡ 0
         → ((turns : List ℕ) × (u : Moment) × Plays M.meaning (M.sizes map.now) races plan.items s turns u
         × AllSeen (M.Belongs map.now) M.Idle (M.UnderWay map.now) (M.Learnable map.now) M.pass_view
-        M.going_view map.now out.items u.callers)) }
+        M.going_view map.now out.items u.callers × (calls_of out.items ≡ calls_of callers.entry.items))) }
     ensures cause { HasCause (X.faults runner.old) (X.faults runner.new) result }
 {
     let schedule = Schedule::new(map, races, plan, callers, note);
@@ -69,7 +69,7 @@ pub fn play_alone<'a, R: Wait + RandomSource + AllocGlobal, X: Runner, M: MapCal
     map: &'a M,
     pass: M::Pass,
     calls: Vec<Call>,
-    answers: Vec<Answer>,
+    answers: Vec<Marked>,
     plan: Vec<u32>,
     races: u64,
     empty: Vec<Caller<'a, M>>,

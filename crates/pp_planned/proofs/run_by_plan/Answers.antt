@@ -1,14 +1,13 @@
-use Rattle.std.proofs.Common.{rules, arith, ◌≡◌, ◌≤◌, ◌<◌, ℕ, length, map, refl, sym, ap, ◌∙◌, subst, List, Some}
-use Rattle.std.specs.Prelude.{slice_get}
+use Rattle.std.proofs.Common.{arith, ◌≡◌, length, map, refl, sym, ap, ◌∙◌, subst, List, Some, ⊎_elim, inl, inr}
 use Rattle.pp_model.specs.Lists.{AtEach}
 use Rattle.pp_model.specs.Pass.{PassView}
 use Rattle.pp_running.specs.Jobs.{views_of, HaveRoom}
-use Rattle.pp_running.specs.Run.{IsOpened, IsRunOf}
+use Rattle.pp_running.specs.Run.{IsOpened}
 use Rattle.pp_running.proofs.Numbers.{few_live}
 use Rattle.pp_running.proofs.Lists.{mapped_at}
-use Rattle.pp_planned.specs.Planned.{opened_at, IsPlanned}
+use Rattle.pp_planned.specs.Planned.{opened_at}
 use Rattle.pp_planned.proofs.Openings.{first_seen, first_go, views_length}
-use Rattle.pp_planned.proofs.Played.{closes_all, closes_each, ran, is_planned}
+use Rattle.pp_planned.proofs.Played.{closes_all, closes_each, ran, is_planned, is_marked}
 use Rattle.pp_planned.proofs.run_by_plan.Goals as goal
 
 many_same : {A B C D : Type 0} (f : A → B) (g : C → B) (v : C → D) (xs : List A) (ps qs : List C) → map f xs ≡ map g ps
@@ -46,6 +45,7 @@ play-requires-clause-seen g c =
           ps c.args.lists.items c.in-Ok.callers.items many made.passes made.calls made.idle made.empty made.room
           n.passes n.learnable c.requires.keys room,
       n.nothing,
+      refl,
     )
 
 pub close-requires-clause-all : goal.close-requires-clause-all
@@ -66,7 +66,7 @@ close-requires-clause-all g c =
     (g.M.MapCalls.Learnable c.args.chosen) view g.M.MapCalls.going_view c.args.chosen c.first_note-note.result
     ps c.args.lists.items c.in-Ok.callers.items many made.passes made.calls made.idle made.empty made.room
     n.passes n.learnable c.requires.keys room in
-    let run = c.in-Ok-play.ensures.played (opened_at (views_of view ps) given) seen go n.nothing in
+    let run = c.in-Ok-play.ensures.played (opened_at (views_of view ps) given) seen go n.nothing refl in
     let lengths : length given ≡ length (views_of view ps) = views_length (λ v. v.items) c.args.lists.items
     ∙ (many ∙ sym (views_length view ps)) in
     let opens = opens_all view (g.M.MapCalls.Belongs c.args.chosen) g.M.MapCalls.Idle ps n.passes in
@@ -94,7 +94,7 @@ close-requires-clause-each g c =
     (g.M.MapCalls.Learnable c.args.chosen) view g.M.MapCalls.going_view c.args.chosen c.first_note-note.result
     ps c.args.lists.items c.in-Ok.callers.items many made.passes made.calls made.idle made.empty made.room
     n.passes n.learnable c.requires.keys room in
-    let run = c.in-Ok-play.ensures.played (opened_at (views_of view ps) given) seen go n.nothing in
+    let run = c.in-Ok-play.ensures.played (opened_at (views_of view ps) given) seen go n.nothing refl in
     let lengths : length given ≡ length (views_of view ps) = views_length (λ v. v.items) c.args.lists.items
     ∙ (many ∙ sym (views_length view ps)) in
     let opens = opens_all view (g.M.MapCalls.Belongs c.args.chosen) g.M.MapCalls.Idle ps n.passes in
@@ -122,7 +122,7 @@ returns-in-Ok-close-clause-ran g c =
     (g.M.MapCalls.Learnable c.args.chosen) view g.M.MapCalls.going_view c.args.chosen c.first_note-note.result
     ps c.args.lists.items c.in-Ok.callers.items many made.passes made.calls made.idle made.empty made.room
     n.passes n.learnable c.requires.keys room in
-    let run = c.in-Ok-play.ensures.played (opened_at (views_of view ps) given) seen go n.nothing in
+    let run = c.in-Ok-play.ensures.played (opened_at (views_of view ps) given) seen go n.nothing refl in
     let lengths : length given ≡ length (views_of view ps) = views_length (λ v. v.items) c.args.lists.items
     ∙ (many ∙ sym (views_length view ps)) in
     let opens = opens_all view (g.M.MapCalls.Belongs c.args.chosen) g.M.MapCalls.Idle ps n.passes in
@@ -132,8 +132,61 @@ returns-in-Ok-close-clause-ran g c =
     (g.M.MapCalls.sizes c.args.chosen) c.args.races c.args.plan.items (views_of view ps) given lengths opens
     c.in-Ok-play.callers.items run.0 run.1 run.2 run.3
     c.in-Ok-close.closed.contents.items c.in-Ok-close.closed.free.items (g.M.MapCalls.run_view c.in-Ok-close.closed.witness) closing
-    (map (λ v. v.items) c.in-Ok-parts_of.answers.items) (ap (map (λ v. v.items)) c.in-Ok-parts_of.ensures.answers) in
+    (map (λ v. v.items) c.in-Ok-parts_of.parts.answers.items) c.in-Ok-parts_of.ensures.answers in
     rw (← n.same) whole
+
+pub returns-in-Ok-close-clause-marked : goal.returns-in-Ok-close-clause-marked
+returns-in-Ok-close-clause-marked g c = λ how.
+    let n = c.first_note-note.ensures in
+    let made = c.in-Ok.ensures in
+    let ps = c.first_note-note.new.passes.items in
+    let view = g.M.MapCalls.pass_view in
+    let given = map (λ v. v.items) c.args.lists.items in
+    let many : length c.args.lists.items ≡ length ps = c.requires.lists ∙ (sym (views_length view c.args.passes.items)
+    ∙ (ap length (sym n.same) ∙ views_length view ps)) in
+    let room = subst (λ (vs : List PassView). HaveRoom vs given) (sym n.same) c.requires.room in
+    let seen = first_seen (g.M.MapCalls.Belongs c.args.chosen) g.M.MapCalls.Idle (g.M.MapCalls.UnderWay c.args.chosen)
+    (g.M.MapCalls.Learnable c.args.chosen) view g.M.MapCalls.going_view c.args.chosen c.first_note-note.result
+    ps c.args.lists.items c.in-Ok.callers.items many made.passes made.calls made.idle made.empty made.room
+    n.passes n.learnable c.requires.keys room in
+    let go = first_go (g.M.MapCalls.Belongs c.args.chosen) g.M.MapCalls.Idle (g.M.MapCalls.UnderWay c.args.chosen)
+    (g.M.MapCalls.Learnable c.args.chosen) view g.M.MapCalls.going_view c.args.chosen c.first_note-note.result
+    ps c.args.lists.items c.in-Ok.callers.items many made.passes made.calls made.idle made.empty made.room
+    n.passes n.learnable c.requires.keys room in
+    let run = c.in-Ok-play.ensures.played (opened_at (views_of view ps) given) seen go n.nothing refl in
+    let lengths : length given ≡ length (views_of view ps) = views_length (λ v. v.items) c.args.lists.items
+    ∙ (many ∙ sym (views_length view ps)) in
+    let opens = opens_all view (g.M.MapCalls.Belongs c.args.chosen) g.M.MapCalls.Idle ps n.passes in
+    let closing = rw c.in-Ok-parts_of.ensures.passes at c.in-Ok-close.ensures.closed in
+    is_marked (g.M.MapCalls.Belongs c.args.chosen) g.M.MapCalls.Idle (g.M.MapCalls.UnderWay c.args.chosen)
+    (g.M.MapCalls.Learnable c.args.chosen) view g.M.MapCalls.going_view c.args.chosen g.M.MapCalls.meaning
+    (g.M.MapCalls.sizes c.args.chosen) c.args.races c.args.plan.items (views_of view ps) given lengths opens
+    c.in-Ok-play.callers.items run.0 run.1 run.2 run.3
+    c.in-Ok-close.closed.contents.items c.in-Ok-close.closed.free.items (g.M.MapCalls.run_view c.in-Ok-close.closed.witness) closing
+    (⊎_elim inl (λ one. inr (views_length (λ v. v.items) c.args.lists.items ∙ one)) how)
+    (map (λ v. v.items) c.in-Ok-parts_of.parts.answers.items) (map (λ v. v.items) c.in-Ok-parts_of.parts.marks.items)
+    c.in-Ok-parts_of.ensures.answers c.in-Ok-parts_of.ensures.marks
+
+pub returns-in-Ok-close-clause-lists : goal.returns-in-Ok-close-clause-lists
+returns-in-Ok-close-clause-lists g c =
+    let n = c.first_note-note.ensures in
+    let made = c.in-Ok.ensures in
+    let ps = c.first_note-note.new.passes.items in
+    let view = g.M.MapCalls.pass_view in
+    let given = map (λ v. v.items) c.args.lists.items in
+    let many : length c.args.lists.items ≡ length ps = c.requires.lists ∙ (sym (views_length view c.args.passes.items)
+    ∙ (ap length (sym n.same) ∙ views_length view ps)) in
+    let room = subst (λ (vs : List PassView). HaveRoom vs given) (sym n.same) c.requires.room in
+    let seen = first_seen (g.M.MapCalls.Belongs c.args.chosen) g.M.MapCalls.Idle (g.M.MapCalls.UnderWay c.args.chosen)
+    (g.M.MapCalls.Learnable c.args.chosen) view g.M.MapCalls.going_view c.args.chosen c.first_note-note.result
+    ps c.args.lists.items c.in-Ok.callers.items many made.passes made.calls made.idle made.empty made.room
+    n.passes n.learnable c.requires.keys room in
+    let go = first_go (g.M.MapCalls.Belongs c.args.chosen) g.M.MapCalls.Idle (g.M.MapCalls.UnderWay c.args.chosen)
+    (g.M.MapCalls.Learnable c.args.chosen) view g.M.MapCalls.going_view c.args.chosen c.first_note-note.result
+    ps c.args.lists.items c.in-Ok.callers.items many made.passes made.calls made.idle made.empty made.room
+    n.passes n.learnable c.requires.keys room in
+    let run = c.in-Ok-play.ensures.played (opened_at (views_of view ps) given) seen go n.nothing refl in
+    c.in-Ok-parts_of.ensures.lists ∙ (run.4 ∙ made.calls)
 
 pub returns-in-Ok-close-clause-planned : goal.returns-in-Ok-close-clause-planned
 returns-in-Ok-close-clause-planned g c =
@@ -153,7 +206,7 @@ returns-in-Ok-close-clause-planned g c =
     (g.M.MapCalls.Learnable c.args.chosen) view g.M.MapCalls.going_view c.args.chosen c.first_note-note.result
     ps c.args.lists.items c.in-Ok.callers.items many made.passes made.calls made.idle made.empty made.room
     n.passes n.learnable c.requires.keys room in
-    let run = c.in-Ok-play.ensures.played (opened_at (views_of view ps) given) seen go n.nothing in
+    let run = c.in-Ok-play.ensures.played (opened_at (views_of view ps) given) seen go n.nothing refl in
     let lengths : length given ≡ length (views_of view ps) = views_length (λ v. v.items) c.args.lists.items
     ∙ (many ∙ sym (views_length view ps)) in
     let opens = opens_all view (g.M.MapCalls.Belongs c.args.chosen) g.M.MapCalls.Idle ps n.passes in

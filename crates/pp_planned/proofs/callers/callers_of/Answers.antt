@@ -1,4 +1,4 @@
-use Rattle.std.proofs.Common.{arith, rules, ◌≡◌, ◌≤◌, map, length, Some, None, [], ◌∷◌, ◌++◌, List, ap, ◌∙◌, sym, refl}
+use Rattle.std.proofs.Common.{arith, rules, ◌≡◌, ◌≤◌, map, length, Some, None, [], ◌∷◌, ◌++◌, ap, ◌∙◌, sym}
 use Rattle.std.specs.Prelude.{vec_capacity}
 use Rattle.std.proofs.lemmas.List.Elements.{All-push}
 use Rattle.std.proofs.lemmas.Iterator.{YieldsList-from_zip}
@@ -24,8 +24,8 @@ loop-pass-preserved g c =
           ∙ ap (λ l. l ++ new.calls ∷ []) c.loop-pass.invariant.calls
           ∙ ap (λ o. map (λ p. p.1) c.loop-pass.yielded ++ o ∷ []) parts.3
           ∙ sym (map-append (λ p. p.1) c.loop-pass.yielded ((c.in-Some.pass, c.in-Some.calls) ∷ []));
-      idle = rw c.in_ok-append.ensures (All-push (λ x. (x.call ≡ None) × (x.next ≡ 0)) old new c.loop-pass.invariant.idle
-          (parts.1, parts.2));
+      idle = rw c.in_ok-append.ensures (All-push (λ x. (x.call ≡ None) × (x.next ≡ 0) × (x.mark ≡ 0)) old new c.loop-pass.invariant.idle
+          (parts.1, parts.2, parts.5));
       empty = rw c.in_ok-append.ensures (All-push (λ x. x.answers.items ≡ []) old new c.loop-pass.invariant.empty
           (ap (λ v. v.items) parts.4 ∙ c.in-Ok-with_capacity.ensures.items));
       room = rw c.in_ok-append.ensures (All-push (λ x. length x.calls.items ≤ vec_capacity x.answers) old new

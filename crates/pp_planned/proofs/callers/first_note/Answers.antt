@@ -1,9 +1,8 @@
-use Rattle.std.proofs.Common.{rules, arith, ◌≡◌, ◌≤◌, length, map, Some, refl, sym, ap, ◌∙◌}
+use Rattle.std.proofs.Common.{arith, ◌≡◌, length, Some, refl}
 use Rattle.std.specs.Prelude.{slice_get}
 use Rattle.std.proofs.lemmas.Option.{slice_get_read}
-use Rattle.pp_model.specs.Pass.{NoteView}
-use Rattle.pp_planned.specs.Planned.{told_nothing}
-use Rattle.pp_planned.proofs.Openings.{noted_opened, noted_learns, set_shown, tells_nothing}
+use Rattle.pp_schedule.proofs.Moved.{set_shown}
+use Rattle.pp_planned.proofs.Openings.{noted_opened, noted_learns, tells_nothing}
 use Rattle.pp_planned.proofs.callers.first_note.Goals as goal
 
 pub returns-clause-passes : goal.returns-clause-passes

@@ -13,18 +13,18 @@ pub finish-way-requires-clause-short : goal.finish-way-requires-clause-short
 finish-way-requires-clause-short g c =
     let run = c.requires.chosen.chosen.runs _ _ _ _ c.in-Ok.ensures.ran in
     rw c.deref.ensures.value (short c.args.settings _ (map (λ v. v.items) c.args.input.lists.items)
-    (map (λ v. v.items) c.in-Ok.ran.answers.items) _ run c.requires.within c.requires.calls.each_caller c.requires.calls.short)
+    (map (λ v. v.items) c.in-Ok.planned.ran.answers.items) _ run c.requires.within c.requires.calls.each_caller c.requires.calls.short)
 
 pub finish-way-requires-clause-few : goal.finish-way-requires-clause-few
 finish-way-requires-clause-few g c =
     let few = rw c.requires.chosen.chosen.sizes_are at c.in-Ok.ensures.few in
-    let pairs = c.requires.chosen.chosen.live (length c.in-Ok.ran.closed.contents.items) in
+    let pairs = c.requires.chosen.chosen.live (length c.in-Ok.planned.ran.closed.contents.items) in
     omega (arith, few, pairs, c.requires.within.records_high, ap length c.contents.ensures)
 
 pub returns : goal.returns
 returns g c = λ words before after said_by input.
     let lists = map (λ v. v.items) c.args.input.lists.items in
-    let answers = map (λ v. v.items) c.in-Ok.ran.answers.items in
+    let answers = map (λ v. v.items) c.in-Ok.planned.ran.answers.items in
     let opened = map g.M.MapCalls.pass_view c.args.passes.items in
     let run = c.requires.chosen.chosen.runs _ _ _ _ c.in-Ok.ensures.ran in
     let shares : AtEach opened (λ k p. p.share ≡ share_of c.args.settings.map (sizes_of c.args.settings) k) =
@@ -32,7 +32,7 @@ returns g c = λ words before after said_by input.
     ap (λ p. p.share) (sym from.2) ∙ c.requires.shares k from.0 from.1 in
     let same = under_opened c.args.settings opened lists answers _ run shares in
     let planned = subst (λ (vs : List PassView). IsPlanned (meaning_of c.args.settings.map) (sizes_of c.args.settings)
-    c.args.settings.races c.args.input.plan.items vs lists (g.M.MapCalls.run_view c.in-Ok.ran.closed.witness)) (sym same)
+    c.args.settings.races c.args.input.plan.items vs lists (g.M.MapCalls.run_view c.in-Ok.planned.ran.closed.witness)) (sym same)
     (c.requires.chosen.plans _ _ _ _ c.in-Ok.ensures.planned) in
     let ends = rw (c.deref.ensures.value, c.contents.ensures, c.in-Ok.ensures.contents) at c.finish-way.ensures in
     cause_of words c.args.settings lists _ answers _ before after _ _ _ _ said_by input

@@ -1,10 +1,10 @@
-use Rattle.std.proofs.Common.{rules, ◌≡◌, ℕ, ◌+◌, ◌<◌, ◌≤◌, Option, Some, None, List, [], ◌∷◌, ◌++◌, length, drop, refl, sym}
-use Rattle.std.proofs.Common.{ap, ◌∙◌, subst, arith}
-use Rattle.std.specs.Prelude.{slice_get, Result, Ok, Err, IfOk}
+use Rattle.std.proofs.Common.{◌≡◌, ℕ, [], ◌∷◌, ◌++◌, length, refl}
+use Rattle.std.proofs.Common.{ap, ◌∙◌, arith}
 use Rattle.pp_model.specs.Pass.{PassView, NoteView}
 use Rattle.pp_model.specs.MapCalls.{Notes}
 use Rattle.pp_schedule.specs.Opened.{opened_alone}
 use Rattle.pp_schedule.proofs.Opening.{alone_seen, alone_goes}
+use Rattle.pp_schedule.proofs.Shown.{ok_of}
 use Rattle.pp_schedule.proofs.playing.play_alone.Goals as goal
 
 -- the note tells what the pass had seen
@@ -32,13 +32,13 @@ play-requires-clause-seen g c =
     let seen = alone_seen (g.M.MapCalls.Belongs c.args.map.now) g.M.MapCalls.Idle (g.M.MapCalls.UnderWay c.args.map.now)
     (g.M.MapCalls.Learnable c.args.map.now) g.M.MapCalls.pass_view g.M.MapCalls.going_view c.args.map.now
     c.note-note.result c.note-note.new.pass c.new-caller.result (g.M.MapCalls.pass_view c.args.pass) c.args.calls.items
-    p.0 p.1 p.2 (ap (λ v. v.items) p.3) (ap (λ v. v.items) p.4 ∙ c.requires.none) n.belongs
+    p.0 p.1 p.2 (ap (λ v. v.items) p.3) (ap (λ v. v.items) p.4 ∙ c.requires.none) p.5 n.belongs
     (n.idle c.requires.idle) n.same c.requires.caller
     c.requires.keys c.requires.room (rw p.4 c.requires.space) n.learnable in
     let goes = alone_goes (g.M.MapCalls.Belongs c.args.map.now) g.M.MapCalls.Idle (g.M.MapCalls.UnderWay c.args.map.now)
     (g.M.MapCalls.Learnable c.args.map.now) g.M.MapCalls.pass_view g.M.MapCalls.going_view c.args.map.now
     c.note-note.result c.note-note.new.pass c.new-caller.result (g.M.MapCalls.pass_view c.args.pass) c.args.calls.items
-    p.0 p.1 p.2 (ap (λ v. v.items) p.3) (ap (λ v. v.items) p.4 ∙ c.requires.none) n.belongs
+    p.0 p.1 p.2 (ap (λ v. v.items) p.3) (ap (λ v. v.items) p.4 ∙ c.requires.none) p.5 n.belongs
     (n.idle c.requires.idle) n.same c.requires.caller
     c.requires.keys c.requires.room (rw p.4 c.requires.space) n.learnable in
     let seen_order = n.noted in (
@@ -46,11 +46,8 @@ play-requires-clause-seen g c =
       rw list seen,
       rw list goes,
       told_is _ _ _ n.noted n.same,
+      refl,
     )
-
-ok_of : {A E : Type 0} (r : Result A E) (P Q : A → Type 0) → IfOk r P → ((x : A) → P x → Q x) → IfOk r Q
-ok_of (Ok x) P Q h f = f x h
-ok_of (Err e) P Q h f = tt
 
 pub returns : goal.returns
 returns g c =
@@ -61,18 +58,18 @@ returns g c =
     let seen = alone_seen (g.M.MapCalls.Belongs c.args.map.now) g.M.MapCalls.Idle (g.M.MapCalls.UnderWay c.args.map.now)
     (g.M.MapCalls.Learnable c.args.map.now) g.M.MapCalls.pass_view g.M.MapCalls.going_view c.args.map.now
     c.note-note.result c.note-note.new.pass c.new-caller.result (g.M.MapCalls.pass_view c.args.pass) c.args.calls.items
-    p.0 p.1 p.2 (ap (λ v. v.items) p.3) (ap (λ v. v.items) p.4 ∙ c.requires.none) n.belongs
+    p.0 p.1 p.2 (ap (λ v. v.items) p.3) (ap (λ v. v.items) p.4 ∙ c.requires.none) p.5 n.belongs
     (n.idle c.requires.idle) n.same c.requires.caller
     c.requires.keys c.requires.room (rw p.4 c.requires.space) n.learnable in
     let goes = alone_goes (g.M.MapCalls.Belongs c.args.map.now) g.M.MapCalls.Idle (g.M.MapCalls.UnderWay c.args.map.now)
     (g.M.MapCalls.Learnable c.args.map.now) g.M.MapCalls.pass_view g.M.MapCalls.going_view c.args.map.now
     c.note-note.result c.note-note.new.pass c.new-caller.result (g.M.MapCalls.pass_view c.args.pass) c.args.calls.items
-    p.0 p.1 p.2 (ap (λ v. v.items) p.3) (ap (λ v. v.items) p.4 ∙ c.requires.none) n.belongs
+    p.0 p.1 p.2 (ap (λ v. v.items) p.3) (ap (λ v. v.items) p.4 ∙ c.requires.none) p.5 n.belongs
     (n.idle c.requires.idle) n.same c.requires.caller
     c.requires.keys c.requires.room (rw p.4 c.requires.space) n.learnable in
     let seen_order = n.noted in
     let s = opened_alone (g.M.MapCalls.pass_view c.args.pass) c.args.calls.items in
     record {
       played = ok_of c.play.result _ _ c.play.ensures.played
-          (λ out h. h s (rw list seen) (rw list goes) (told_is _ _ _ n.noted n.same));
+          (λ out h. let r = h s (rw list seen) (rw list goes) (told_is _ _ _ n.noted n.same) refl in (r.0, r.1, r.2, r.3));
     }

@@ -1,10 +1,10 @@
-use Rattle.std.proofs.Common.{rules, ◌≡◌, ℕ, ◌+◌, ◌-◌, ◌<◌, ◌≤◌, true, false, Option, Some, None, length, drop, List, [], ◌∷◌}
+use Rattle.std.proofs.Common.{◌≡◌, ℕ, ◌+◌, ◌<◌, Some, None, length, drop, List, []}
 use Rattle.std.proofs.Common.{arith, ⊎_elim, refl, sym, ap, ◌∙◌, subst, get_or}
 use Rattle.std.specs.Prelude.{slice_get}
 use Rattle.std.proofs.lemmas.Bool.{cases_eq}
 use Rattle.std.proofs.lemmas.List.{drop_more, drop_all}
 use Rattle.std.proofs.lemmas.Option.{slice_get-get_or, slice_get_read}
-use Rattle.pp_schedule.specs.Seats.{HasNone, IsOver, Chooses, passes, takes, least, all_over}
+use Rattle.pp_schedule.specs.Seats.{IsOver, passes, takes, least, all_over}
 use Rattle.pp_schedule.proofs.Moved.{some_same}
 use Rattle.pp_schedule.proofs.schedule.choose.Goals as goal
 

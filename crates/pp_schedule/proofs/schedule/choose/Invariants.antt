@@ -1,4 +1,4 @@
-use Rattle.std.proofs.Common.{◌≡◌, ℕ, ◌+◌, ◌-◌, ◌<◌, ◌≤◌, Option, List, [], length, drop}
+use Rattle.std.proofs.Common.{ℕ, ◌-◌, ◌<◌, ◌≤◌, Option, List, length, drop}
 use Rattle.pp_schedule.specs.Seats.{HasNone, Chooses}
 use Rattle.pp_schedule.proofs.schedule.choose.Given as goal
 

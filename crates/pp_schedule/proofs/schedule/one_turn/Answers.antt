@@ -1,11 +1,12 @@
-use Rattle.std.proofs.Common.{rules, ◌≡◌, ℕ, ◌+◌, ◌-◌, ◌<◌, ◌≤◌, true, false, Option, Some, None, length, drop, List, [], ◌∷◌}
-use Rattle.std.proofs.Common.{arith, refl, sym, ap, ◌∙◌, subst}
-use Rattle.std.specs.Prelude.{slice_get}
+use Rattle.std.proofs.Common.{◌≡◌, ℕ, Option, Some, None, length, drop}
+use Rattle.std.proofs.Common.{arith, refl, ap, subst}
 use Rattle.std.proofs.lemmas.Option.{slice_get_read}
-use Rattle.pp_schedule.specs.Plays.{Moment}
+use Rattle.pp_model.specs.Pass.{NoteView}
+use Rattle.pp_model.specs.MapCalls.{Notes}
+use Rattle.pp_schedule.specs.Calls.{capped, CallerTurn, Marks}
 use Rattle.pp_schedule.specs.Seats.{HasNone}
 use Rattle.pp_schedule.proofs.Chosen.{chosen_not_over, chosen_turn, plays_over, plays_turn}
-use Rattle.pp_schedule.proofs.Moved.{moved}
+use Rattle.pp_schedule.proofs.Moved.{moved, set_shown}
 use Rattle.pp_schedule.proofs.schedule.one_turn.Goals as goal
 
 none_of : (o : Option ℕ) → ((x : ℕ) → o ≡ Some x → ⊥) → o ≡ None
@@ -102,8 +103,17 @@ turn-note-requires-clause-learnable g c =
     h c.index_mut.ensures.value in
     t.goes.learns
 
+pub returns-clause-calls : goal.returns-clause-calls
+returns-clause-calls g c =
+    let xs = c.args.callers.now.items in
+    let k = c.in-Some.chosen in
+    let h = rw (c.in-Some.is, c.as_slice.ensures.value) at c.choose.ensures.chosen in
+    let not = chosen_not_over (HasNone xs) (length xs) (drop c.args.at.now c.args.plan.now) (drop c.choose.new.at c.args.plan.now) k h in
+    set_shown (λ x. x.calls) xs k c.index_mut.result.now c.turn-note.new.self
+    (slice_get_read xs (length xs) k c.index_mut.result.now refl not.1 c.index_mut.ensures.value) c.turn-note.ensures.calls
+
 pub returns-clause-on : goal.returns-clause-on
-returns-clause-on g c = λ so s seen may told.
+returns-clause-on g c = λ so s seen may told counted.
     let xs = c.args.callers.now.items in
     let k = c.in-Some.chosen in
     let before_plan = drop c.args.at.now c.args.plan.now in
@@ -115,18 +125,21 @@ returns-clause-on g c = λ so s seen may told.
     xs s c.args.note before_plan left_plan k x seen may h c.index_mut.ensures.value in
     let not = chosen_not_over (HasNone xs) (length xs) before_plan left_plan k h in
     let e = c.turn-note.ensures in
-    let w = e.shows t.v t.sees.shows t.sees.calls t.sees.answers in
-    let turned = rw told at w.4 in
+    let w = e.shows t.v t.sees.shows t.sees.calls t.sees.answers t.sees.marks t.sees.mark s.count counted in
+    let turned = subst (λ (heard : NoteView). (turn : CallerTurn g.M.MapCalls.meaning (g.M.MapCalls.sizes c.args.map.now) c.args.races
+    heard t.v w.0) × Notes w.0.pass (g.M.MapCalls.note_view c.turn-note.result.0) × (m : ℕ) × (c.turn-note.result.1 ≡ capped m)
+    × Marks turn.going turn.now s.count m t.v w.0) told w.6 in
     let m = moved (g.M.MapCalls.Belongs c.args.map.now) g.M.MapCalls.Idle (g.M.MapCalls.UnderWay c.args.map.now)
     (g.M.MapCalls.Learnable c.args.map.now) g.M.MapCalls.pass_view g.M.MapCalls.going_view c.args.map.now
     (g.met.M.MapCalls.others_learn c.args.map.now) g.M.MapCalls.meaning (g.M.MapCalls.sizes c.args.map.now) c.args.races
-    s k xs c.args.note c.turn-note.result (g.M.MapCalls.note_view c.turn-note.result) x c.turn-note.new.self t.v w.0 seen may
+    s k xs c.args.note c.turn-note.result.0 (g.M.MapCalls.note_view c.turn-note.result.0) x c.turn-note.new.self t.v w.0 seen may
     (slice_get_read xs (length xs) k x refl not.1 c.index_mut.ensures.value) t.is_v
-    e.calls e.space e.maps e.learnable w.1 w.2 w.3 turned w.5 in (
+    e.calls e.space e.maps e.learnable w.1 w.2 w.3 w.4 w.5 turned.0 turned.1 turned.2 c.turn-note.result.1 turned.3 turned.4 in (
       m.0,
-      m.3,
       m.4,
+      m.5,
       m.2,
+      m.3,
       (
         k,
         λ turns u plays.

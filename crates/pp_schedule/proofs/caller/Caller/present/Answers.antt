@@ -1,7 +1,7 @@
-use Rattle.std.proofs.Common.{rules, ◌≡◌, ℕ, ◌+◌, ◌<◌, ◌≤◌, List, [], ◌∷◌, Option, Some, None, length, drop, refl, sym, ap, ◌∙◌, arith}
+use Rattle.std.proofs.Common.{◌≡◌, ◌+◌, ◌<◌, ◌∷◌, Some, length, drop, refl, sym, ap, ◌∙◌}
 use Rattle.std.proofs.lemmas.List.{drop_more}
 use Rattle.pp_model.specs.declared.Call.{Call}
-use Rattle.pp_schedule.specs.Calls.{IsCalling, CallerAt, Shows, Has, goes_on, begins}
+use Rattle.pp_schedule.specs.Calls.{goes_on, begins}
 use Rattle.pp_schedule.proofs.Shown.{some_at, going_shown, resting_shown}
 use Rattle.pp_schedule.proofs.caller.Caller.present.Goals as goal
 
