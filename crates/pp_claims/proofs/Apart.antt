@@ -100,7 +100,9 @@ module _ (b : ℕ) (bytes : List ℕ) where
   beyond low (suc count) n ns out =
       let other : n ≡ low → ⊥ = λ e. ⊎_elim (λ (below : n < low). omega arith) (λ (above : low + suc count ≤ n). omega arith) out in
       let test : (nat_eq n low || has low ns) ≡ has low ns = ap (λ (c : Bool). c || has low ns) (ne_eqb n low other) in
-      let rest = beyond (low + 1) count n ns (⊎_elim (λ (below : n < low). inl (omega arith)) (λ (above : low + suc count ≤ n). inr (omega arith)) out) in
+      let further : (n < low + 1) ⊎ (low + 1 + count ≤ n) =
+      ⊎_elim (λ (below : n < low). inl (omega arith)) (λ (above : low + suc count ≤ n). inr (omega arith)) out in
+      let rest = beyond (low + 1) count n ns further in
       ap (λ (c : Bool). cond c (left_over (low + 1) count (n ∷ ns)) (low ∷ left_over (low + 1) count (n ∷ ns))) test
       ∙ ap (λ (l : List ℕ). cond (has low ns) l (low ∷ l)) rest
 

@@ -40,7 +40,8 @@ module _ (meaning : Meaning) (sizes : MapSizes) (races callers pieces : ℕ) (op
     -- each claim has an answer
     pub each_answered : AtEach answers (λ c got. length got.items ≡ pieces)
     each_answered c got at =
-        let low : c < length (all_claims callers pieces) = omega (arith, slice_get_within answers c got at, answers_long, all_long callers pieces) in
+        let here = slice_get_within answers c got at in
+        let low : c < length (all_claims callers pieces) = omega (arith, here, answers_long, all_long callers pieces) in
         let calls : List Call = get_or (all_claims callers pieces) c [] in
         let list = slice_get-get_or (all_claims callers pieces) c [] low in
         let one = caller_at meaning sizes races pieces opened (all_claims callers pieces) (map (λ v. v.items) answers) run ran

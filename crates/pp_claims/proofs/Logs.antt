@@ -171,7 +171,8 @@ module _ (pieces : ℕ) where
   owner_claimed (d ∷ log) caller k (suc p) c at key own =
       by (nat_eq d.caller caller) (owner_claimed log caller k p c at key own)
     where
-      by : (b : Bool) → has k (claimed_by caller log) ≡ true → has k (cond b (key_of d.call ∷ claimed_by caller log) (claimed_by caller log)) ≡ true
+      by : (b : Bool) → has k (claimed_by caller log) ≡ true
+          → has k (cond b (key_of d.call ∷ claimed_by caller log) (claimed_by caller log)) ≡ true
       by true one = ap (λ (x : Bool). nat_eq (key_of d.call) k || x) one ∙ or_one (nat_eq (key_of d.call) k)
         where
           or_one : (a : Bool) → (a || true) ≡ true

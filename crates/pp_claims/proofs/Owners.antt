@@ -33,8 +33,8 @@ kept_from pieces m (c ∷ log) (suc p) k v claims sound found =
     kept_from pieces (map_after m c.call) log p k v (λ q d at. claims (suc q) d at) (λ q d at. sound (suc q) d at) found
 
 -- what two lists of owned pieces, told by the log, share
-all_apart : (pieces low : ℕ) (log : List Change) (lists : List (List Call)) (answers : List (List Answer)) → AtEach log (λ p c. IsClaim pieces c)
-    → SoundFrom [] log
+all_apart : (pieces low : ℕ) (log : List Change) (lists : List (List Call)) (answers : List (List Answer))
+    → AtEach log (λ p c. IsClaim pieces c) → SoundFrom [] log
     → ((c : ℕ) (calls : List Call) (got : List Answer) → slice_get lists c ≡ Some calls → slice_get answers c ≡ Some got
     → owned calls got ≡ claimed_by (low + c) log)
     → Apart pieces (all_owned lists answers)
@@ -134,7 +134,8 @@ module _ (meaning : Meaning) (sizes : MapSizes) (races pieces : ℕ) (opened : L
             got = answer.0;
             list = list.1;
             answered = answer.1;
-            won = ap (has number) (own_is c list.0 answer.0 list.1 answer.1) ∙ owner_claimed pieces run.log c number one.0 change one.2 one.3 one.4;
+            won = ap (has number) (own_is c list.0 answer.0 list.1 answer.1)
+                ∙ owner_claimed pieces run.log c number one.0 change one.2 one.3 one.4;
           },
         ))
         (claim_of pieces [] run.log number c claims sound found)
@@ -155,7 +156,8 @@ module _ (meaning : Meaning) (sizes : MapSizes) (races pieces : ℕ) (opened : L
         let one = (caller_at c calls got list answered).1 in
         absurd (⊎_elim
         (λ (added : is_added (Said r) ≡ true).
-        true≢false (sym (at_all_owned number lists answers c calls got list answered (won_there number calls got j call (Said r) at given key added)) ∙ none))
+        let won = won_there number calls got j call (Said r) at given key added in
+        true≢false (sym (at_all_owned number lists answers c calls got list answered won) ∙ none))
         (λ held. true≢false (sym (owned_by_all held.1 number
         (own held.1 number (kept_from pieces [] run.log held.0 number held.1 claims sound held.2)).1) ∙ none))
         (said_claim run.log c pieces calls got one.closed.mine (are c calls list) one.said one.stands j number call r at given key))

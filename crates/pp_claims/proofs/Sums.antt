@@ -27,22 +27,24 @@ sum_mapped b (v ∷ counts) =
     sum_by-cons (λ t. get_or t b 0) v.items (items_of counts) ∙ (ap (λ (n : ℕ). get_or v.items b 0 + n) (sum_mapped b counts)
     ∙ sym (sum_by-cons (at b) v counts))
 
-module _ (counts : List (Vec ℕ Global)) (rest : List ℕ) (b i : ℕ) (v : Vec ℕ Global) (is : v ≡ get_or counts i v) (low : i < length counts) where
-  -- one more table
-  pub sum_more : sum_at (items_of (take (i + 1) counts)) rest b ≡ sum_at (items_of (take i counts)) rest b + get_or v.items b 0
-  unfolding at
-  sum_more =
-      let now = sum_mapped b (take (i + 1) counts) in let was = sum_mapped b (take i counts) in
-      let more = sum_by_more (at b) counts i v low in let one = ap (at b) is in
-      omega (arith, now, was, more, one)
+module _ (counts : List (Vec ℕ Global)) (rest : List ℕ) (b i : ℕ) (v : Vec ℕ Global) (is : v ≡ get_or counts i v)
+    (low : i < length counts)
+  where
+    -- one more table
+    pub sum_more : sum_at (items_of (take (i + 1) counts)) rest b ≡ sum_at (items_of (take i counts)) rest b + get_or v.items b 0
+    unfolding at
+    sum_more =
+        let now = sum_mapped b (take (i + 1) counts) in let was = sum_mapped b (take i counts) in
+        let more = sum_by_more (at b) counts i v low in let one = ap (at b) is in
+        omega (arith, now, was, more, one)
 
-  -- is within the sum of all
-  pub sum_more_le : sum_at (items_of (take i counts)) rest b + get_or v.items b 0 ≤ sum_at (items_of counts) rest b
-  unfolding at
-  sum_more_le =
-      let all = sum_mapped b counts in let was = sum_mapped b (take i counts) in
-      let more = sum_by_more_le (at b) counts i v low in let one = ap (at b) is in
-      omega (arith, all, was, more, one)
+    -- is within the sum of all
+    pub sum_more_le : sum_at (items_of (take i counts)) rest b + get_or v.items b 0 ≤ sum_at (items_of counts) rest b
+    unfolding at
+    sum_more_le =
+        let all = sum_mapped b counts in let was = sum_mapped b (take i counts) in
+        let more = sum_by_more_le (at b) counts i v low in let one = ap (at b) is in
+        omega (arith, all, was, more, one)
 
 -- one more value of the sum
 pub sums_more : (f : ℕ → ℕ) (total : List ℕ) (value sum : ℕ) → length total ≡ value → ((b : ℕ) → b < value → get_or total b 0 ≡ f b)
@@ -52,7 +54,8 @@ sums_more f [] value sum long each is (suc b) low = absurd (omega (arith, long))
 sums_more f (x ∷ total) value sum long each is zero low = each 0 (omega (arith, long))
 sums_more f (x ∷ total) zero sum long each is (suc b) low = absurd (omega (arith, long))
 sums_more f (x ∷ total) (suc value) sum long each is (suc b) low =
-    sums_more (λ n. f (suc n)) total value sum (omega (arith, long)) (λ c below. each (suc c) (omega (arith, below))) is b (omega (arith, low))
+    sums_more (λ n. f (suc n)) total value sum (omega (arith, long)) (λ c below. each (suc c) (omega (arith, below))) is b
+    (omega (arith, low))
 
 module _ (bytes : List ℕ) (b : ℕ) (low : b < 256) where
   -- what the callers counted is what stands in the pieces that they own

@@ -1,0 +1,4 @@
+pub mod Text
+pub mod Tally
+pub mod Parts
+pub mod View
