@@ -1,16 +1,15 @@
 -- As many records are attached as there are pairs exactly where no attached record is removed.
-use Rattle.std.proofs.Common.{◌≡◌, ◌≢◌, ℕ, zero, suc, ◌+◌, ◌≤◌, List, [], ◌∷◌, length, refl, sym, ap, ◌∙◌, subst, ⊎_elim, arith, Bool, true, false, cond, eqb, eq-eqb, ne_eqb, ◌<◌, ◌⊎◌, inl, inr}
+use Rattle.std.proofs.Common.{◌≡◌, ◌≢◌, ℕ, ◌+◌, ◌≤◌, List, [], ◌∷◌, length, refl, sym, ap, ◌∙◌, subst, ⊎_elim, arith, Bool, true, false, cond, eqb, eq-eqb, ne_eqb, ◌⊎◌, inl, inr}
 use Rattle.std.proofs.Math.Decide.{ℕ_discrete}
 use mathlib.Core.Logic.{dite}
-use lib.ListN.{get_elem?}
 use Rattle.pp_link.specs.declared.layout.Sizes.{Sizes}
-use Rattle.pp_link.specs.Links.{target, flag_bit}
+use Rattle.pp_link.specs.Links.{target}
 use Rattle.pp_link.specs.Places.{IsNumber}
 use Rattle.pp_link.specs.Words.{head_word, cell_word}
 use Rattle.pp_model.specs.History.{contents_of}
 use Rattle.pp_rule.specs.Lists.{IsIn, Once, without, times}
 use Rattle.pp_rule.specs.Orders.{log_of}
-use Rattle.pp_rule.specs.States.{RecordState, attached, Leads}
+use Rattle.pp_rule.specs.States.{attached, Leads}
 use Rattle.pp_rule.specs.Rule.{Base}
 use Rattle.pp_rule.specs.Reached.{Reached}
 use Rattle.pp_rule.specs.Reached.Reached.{by_head, by_link}
