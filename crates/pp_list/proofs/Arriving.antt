@@ -40,6 +40,7 @@ use Rattle.pp_turns.specs.Turns.{Since, SawLast, Unplaced, WasAbsent, Replied}
 use Rattle.pp_turns.proofs.Placing.{replied_later, unplaced_on, absent_on, after_longer}
 use Rattle.pp_turns.proofs.Purses.{alone_on}
 use Rattle.pp_turns.proofs.Stretches.{since_on, saw_on, steps_named, own_before}
+use Rattle.pp_walk.proofs.Counting.{walks_write_none}
 use Rattle.pp_walk.specs.declared.walk.Found.{Found}
 use Rattle.pp_walk.specs.Effects.{MayFill}
 use Rattle.pp_walk.specs.Roles.{IsFound, IsEnd, at_nil, at_record, HasChain, no_chain, a_chain, found_in, is_look}
@@ -67,8 +68,8 @@ idles_none v w is = record {
 }
 
 pub idles_quiet : (v w : ListView) → Idles v w → WriteNone (steps_made v w)
-idles_quiet v w q = kinds_none (steps_made v w) (λ n i. q.writes n
-    (subst (λ (ns : List NamedStep). IsIn n ns) (steps_named q.steps v w q.did) i))
+idles_quiet v w q = kinds_none (steps_made v w) (λ n i. walks_write_none n.kind (q.writes n
+    (subst (λ (ns : List NamedStep). IsIn n ns) (steps_named q.steps v w q.did) i)))
 
 -- what a call has of its purse over steps that write no link, after which the same is known of its pass
 pub carries_idle : (share : ℕ) (call : Call) (fresh : Option Fresh) (z : Sizes) (from v w : ListView) (free : List ℕ) (p : Purse)

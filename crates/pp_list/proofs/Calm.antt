@@ -19,6 +19,7 @@ use Rattle.pp_turns.specs.Causes.{Aside}
 use Rattle.pp_turns.proofs.Aside.{counts_losing, counts_effected}
 use Rattle.pp_turns.proofs.Placing.{unplaced_made, unplaced_on}
 use Rattle.pp_turns.proofs.Stretches.{ran_both, ran_as, own_before, stretch_both, steps_named}
+use Rattle.pp_walk.proofs.Counting.{walks_write_none}
 use Rattle.pp_walk.specs.Trod.{Idles, Quiet, WriteNoLink, StrikeNone, FindSo}
 use Rattle.pp_list.specs.Answers.{Calm}
 use Rattle.pp_list.proofs.Reading.{list_over, named_losing, named_later}
@@ -43,7 +44,7 @@ kind_effect k place word none =
 
 -- what writes no link takes no effect
 pub strikes_none : (steps : List NamedStep) → WriteNoLink steps → StrikeNone steps
-strikes_none steps writes s i = kind_effect s.kind s.place s.word (writes s i)
+strikes_none steps writes s i = kind_effect s.kind s.place s.word (walks_write_none s.kind (writes s i))
 
 module _ (z : Sizes) (call : Call) (lost : ℕ) (names : List NamedStep) (v w : ListView) (made : Made names v w)
     (finds : (earlier : List NamedStep) → finds_in (map_sizes z) earlier names ≡ lost) where

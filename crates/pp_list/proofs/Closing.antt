@@ -38,6 +38,7 @@ use Rattle.pp_turns.proofs.Answering.{says_plain, says_struck, gave_up}
 use Rattle.pp_turns.proofs.Placing.{replied_later, struck_later, unplaced_on}
 use Rattle.pp_turns.proofs.Purses.{alone_on, tidied}
 use Rattle.pp_turns.proofs.Stretches.{since_on, saw_on, steps_both, stepped_steps, steps_named}
+use Rattle.pp_walk.proofs.Counting.{walks_write_none}
 use Rattle.pp_walk.specs.Roles.{is_look}
 use Rattle.pp_walk.specs.Trod.{Idles}
 use Rattle.pp_list.specs.Causes.{list_causes, taken_by, effect_place, number_at, IsListed, ListLeftBy}
@@ -55,8 +56,8 @@ leaves_calm false z share fresh call v w p p' l = calm_both z call v l.between w
 
 -- it writes no link where it only looked
 looks_none : (v w : ListView) (p p' : Purse) → LooksAway v w p p' → WriteNone (steps_made v w)
-looks_none v w p p' l = kinds_none (steps_made v w) (λ n i. l.idles.writes n
-    (subst (λ (ns : List NamedStep). IsIn n ns) (steps_named l.idles.steps v w l.idles.did) i))
+looks_none v w p p' l = kinds_none (steps_made v w) (λ n i. walks_write_none n.kind (l.idles.writes n
+    (subst (λ (ns : List NamedStep). IsIn n ns) (steps_named l.idles.steps v w l.idles.did) i)))
 
 module _ (z : Sizes) (share : ℕ) (fresh : Option Fresh) (from v w : ListView) (free : List ℕ) (p p' : Purse) (went : Went from v) where
   -- the purse of a call that changes its list

@@ -35,6 +35,7 @@ use Rattle.pp_turns.specs.Turns.{Ran, Since, Waits, SawLast, Unplaced, Replied}
 use Rattle.pp_turns.proofs.Placing.{unplaced_on, replied_on}
 use Rattle.pp_turns.proofs.Purses.{alone_on}
 use Rattle.pp_turns.proofs.Stretches.{since_first, since_on, saw_last, stepped_steps, stretch_both, own_before}
+use Rattle.pp_walk.proofs.Counting.{walks_write_none}
 use Rattle.pp_walk.specs.declared.walk.Walk.{Walk}
 use Rattle.pp_walk.specs.declared.walk.Found.{Found}
 use Rattle.pp_walk.specs.Roles.{IsWalk, IsFound, found_in, lower_of, is_look}
@@ -140,8 +141,8 @@ carries_rest share call fresh from v u free p s none rest k = record {
     )
 
 trod_none : (lost : ℕ) (calls : List Placed) (v u : ListView) (t : Trod lost calls v u) → WriteNone (steps_made v u)
-trod_none lost calls v u t = kinds_none (steps_made v u) (λ n i. t.writes n (subst (λ (l : List NamedStep). IsIn n l)
-    (ap (map name_of) (stepped_steps v u t.stepped) ∙ t.named) i))
+trod_none lost calls v u t = kinds_none (steps_made v u) (λ n i. walks_write_none n.kind (t.writes n
+    (subst (λ (l : List NamedStep). IsIn n l) (ap (map name_of) (stepped_steps v u t.stepped) ∙ t.named) i)))
 
 trod_unplaced : (lost : ℕ) (v u : ListView) (t : Trod lost [] v u) → Unplaced v u
 trod_unplaced lost v u t = t.stepped.placed ∙ (ap (λ (l : List Placed). placed_by v.known.number v.order ++ l) t.calls_are

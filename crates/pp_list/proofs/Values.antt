@@ -1,5 +1,5 @@
 -- Loads of the fields of held records find nothing.
-use Rattle.std.proofs.Common.{◌≡◌, ℕ, ◌+◌, false, List, [], ◌∷◌, ◌++◌, refl, sym, ap, ◌∙◌, subst, ⊎_elim, arith}
+use Rattle.std.proofs.Common.{◌≡◌, ℕ, ◌+◌, true, List, [], ◌∷◌, ◌++◌, refl, sym, ap, ◌∙◌, subst, ⊎_elim, arith}
 use Rattle.pp_model.specs.Pass.{MapSizes}
 use Rattle.pp_rule.specs.Lists.{IsIn}
 use Rattle.pp_rule.specs.Orders.{read_step}
@@ -7,7 +7,7 @@ use Rattle.pp_rule.specs.Steps.{ReadField}
 use Rattle.pp_rule.proofs.Put.{in_one, in_either}
 use Rattle.pp_base.specs.Named.{NamedStep, Made}
 use Rattle.pp_base.proofs.Named.{made_append}
-use Rattle.pp_calls.specs.PoolViews.{is_writing}
+use Rattle.pp_rule.specs.Orders.{only_walks}
 use Rattle.pp_lists.specs.Turns.{ListView}
 use Rattle.pp_lists.specs.Losses.{finds}
 use Rattle.pp_lists.proofs.Losing.{IsIdleKind, idle_finds, finds_append, onto}
@@ -32,7 +32,7 @@ idles_read i field found place v w r = record {
   );
   loses = λ sizes earlier. idle_finds sizes earlier (step ∷ []) (λ s here. subst (λ (x : NamedStep). IsIdleKind x.kind) (in_one s step here)
       record { load = λ e. omega arith; confirm = λ e. omega arith; miss = λ e. omega arith; mark = λ e. omega arith });
-  writes = λ s here. subst (λ (x : NamedStep). is_writing x.kind ≡ false) (in_one s step here) refl;
+  writes = λ s here. subst (λ (x : NamedStep). only_walks x.kind ≡ true) (in_one s step here) refl;
 }
   where
     step : NamedStep

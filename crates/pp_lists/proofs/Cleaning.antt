@@ -1,16 +1,15 @@
 -- As many records are attached as there are pairs exactly where no attached record is removed.
-use Rattle.std.proofs.Common.{◌≡◌, ◌≢◌, ℕ, zero, suc, ◌+◌, ◌≤◌, List, [], ◌∷◌, length, refl, sym, ap, ◌∙◌, subst, ⊎_elim, arith, Bool, true, false, cond, eqb, eq-eqb, ne_eqb, ◌<◌, ◌⊎◌, inl, inr}
+use Rattle.std.proofs.Common.{◌≡◌, ◌≢◌, ℕ, ◌+◌, ◌≤◌, List, [], ◌∷◌, length, refl, sym, ap, ◌∙◌, subst, ⊎_elim, arith, Bool, true, false, cond, eqb, eq-eqb, ne_eqb, ◌⊎◌, inl, inr}
 use Rattle.std.proofs.Math.Decide.{ℕ_discrete}
 use mathlib.Core.Logic.{dite}
-use lib.ListN.{get_elem?}
 use Rattle.pp_link.specs.declared.layout.Sizes.{Sizes}
-use Rattle.pp_link.specs.Links.{target, flag_bit}
+use Rattle.pp_link.specs.Links.{target}
 use Rattle.pp_link.specs.Places.{IsNumber}
 use Rattle.pp_link.specs.Words.{head_word, cell_word}
 use Rattle.pp_model.specs.History.{contents_of}
 use Rattle.pp_rule.specs.Lists.{IsIn, Once, without, times}
 use Rattle.pp_rule.specs.Orders.{log_of}
-use Rattle.pp_rule.specs.States.{RecordState, attached, Leads}
+use Rattle.pp_rule.specs.States.{attached, Leads}
 use Rattle.pp_rule.specs.Rule.{Base}
 use Rattle.pp_rule.specs.Reached.{Reached}
 use Rattle.pp_rule.specs.Reached.Reached.{by_head, by_link}
@@ -21,7 +20,9 @@ use Rattle.pp_rule.proofs.Counting.{times_here, times_else}
 use Rattle.pp_model.specs.declared.Pair.{Pair}
 use Rattle.pp_rule.proofs.Reaching.{reached_attached}
 use Rattle.pp_lists.specs.Contents.{list_alive}
-use Rattle.pp_lists.specs.Lists.{ListState, Lists}
+use Rattle.pp_rule.specs.Opening.{opening_words}
+use Rattle.pp_rule.proofs.OpeningWords.{opening_head}
+use Rattle.pp_lists.specs.Lists.{ListState, Lists, list_head, list_field}
 use Rattle.pp_lists.specs.Clean.{IsBare}
 use Rattle.pp_lists.proofs.Closing.{IsAlive, live_in, live_once, live_all, low_bucket, told_gathered, contents_are, list_reached, counted}
 
@@ -114,3 +115,20 @@ module _ (z : Sizes) (words : List ℕ) (g : ListState) (b : Base 1 z words g) (
     all = λ n some reached. let number = reached_number n some reached in
         alive_of n record { number = number; state = reached_attached 1 z words g b n number reached; plain = bare n number reached };
   }
+
+-- no record of a list that opens can be reached
+none_open : (z : Sizes) (n : ℕ) → 1 ≤ n → Reached 1 z (opening_words 0 list_head list_field z) n → ⊥
+none_open z n some (by_head h low to) =
+    let nil : target (head_word (opening_words 0 list_head list_field z) z h) ≡ 0 = ap target (opening_head 0 list_head list_field z h low) in
+    omega arith
+none_open z n some (by_link m side is low to r) = none_open z m is.0 r
+
+-- so it opens clean
+pub clean_open : (z : Sizes) → CountsAttached (Reached 1 z (opening_words 0 list_head list_field z)) 0
+clean_open z = record {
+  numbers = [];
+  count_is = refl;
+  once = λ k l x y at_k at_l e. absurd (in_nil x (k, at_k));
+  each = λ n i. absurd (in_nil n i);
+  all = λ n some r. absurd (none_open z n some r);
+}

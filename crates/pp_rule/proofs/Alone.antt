@@ -14,7 +14,7 @@ use Rattle.pp_rule.specs.States.{PoolState}
 use Rattle.pp_rule.specs.Rule.{Base}
 use Rattle.pp_rule.specs.Ties.{TiedPass, Tied, Runs, Holds, GoAside}
 use Rattle.pp_rule.specs.Steps.{entry, alone, IsAlone, MadeStep}
-use Rattle.pp_rule.specs.Alone.{SeesAll, IsRun, IsOwnStep, HasOwnChanges, SeenState, SeesState, HasSeen}
+use Rattle.pp_rule.specs.Alone.{SeesAll, IsRun, IsOwnStep, HasOwnChanges, HasSeen}
 use Rattle.pp_rule.proofs.Put.{in_nil, in_first, in_right, in_left, in_cases, at_below}
 use Rattle.pp_rule.proofs.Histories.{made_append, entries_append}
 use Rattle.pp_rule.proofs.Seats.{none_made}

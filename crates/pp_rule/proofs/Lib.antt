@@ -33,6 +33,7 @@ pub mod Counting
 pub mod Times
 pub mod Alone
 pub mod Undisturbed
+pub mod Cleanly
 pub mod Reading
 pub mod Learnt
 pub mod Reaching

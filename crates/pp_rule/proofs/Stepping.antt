@@ -1,6 +1,6 @@
 -- A step of a seat that is alone with its pass: what it owes of the rule, and what follows for the views and the order.
 use Rattle.std.proofs.Common.{◌≡◌, ◌≢◌, ℕ, ◌<◌, true, false, List, [], ◌∷◌, ◌++◌, get_or, set, refl, sym, ap}
-use Rattle.std.proofs.Common.{◌∙◌, subst, ⊎_elim, ◌⊎◌, inl, inr, ◌+◌, ◌*◌, ◌≤◌, Bool, length, length-append, arith}
+use Rattle.std.proofs.Common.{◌∙◌, subst, ⊎_elim, ◌⊎◌, inl, inr, ◌*◌, ◌≤◌, Bool, length, length-append, arith}
 use Rattle.std.specs.Prelude.{nat_eq, ◌||◌}
 use mathlib.Core.Option.{some}
 use lib.ListN.{get_elem?}

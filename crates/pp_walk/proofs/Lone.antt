@@ -1,6 +1,6 @@
 -- A turn of a pass that is alone on its pool, where no record that can be reached is removed, isn't lost.
 use Rattle.std.proofs.Common.{◌≡◌, ◌≢◌, ℕ, ◌+◌, ◌<◌, ◌≤◌, ◌⊎◌, inl, inr, ⊎_elim, true, false, List, [], ◌∷◌, ◌++◌, map, length}
-use Rattle.std.proofs.Common.{get_or, refl, sym, ap, ◌∙◌, subst, arith}
+use Rattle.std.proofs.Common.{Bool, get_or, refl, sym, ap, ◌∙◌, subst, arith}
 use Rattle.std.proofs.Math.Decide.{ℕ_discrete}
 use mathlib.Core.Logic.{dite}
 use Rattle.pp_link.specs.declared.layout.Sizes.{Sizes}
@@ -33,7 +33,22 @@ use Rattle.pp_lists.proofs.Closing.{list_reached}
 use Rattle.pp_walk.specs.declared.walk.Walk.{Walk}
 use Rattle.pp_walk.specs.Trod.{Why, MetInvalid, MetOther}
 use Rattle.pp_walk.specs.Turns.{Turned}
-use Rattle.pp_walk.specs.Lone.{list_opens, words_of, Sees, IsLone, IsOwn}
+use Rattle.std.specs.Prelude.{bit_or}
+use Rattle.atomic_table.specs.declared.shared.Seat.{Seat}
+use Rattle.pp_model.specs.Calls.{key_of}
+use Rattle.pp_rule.specs.Orders.{missed_step}
+use Rattle.pp_rule.specs.Steps.{MadeStep, MadeQuietStep}
+use Rattle.pp_rule.proofs.Alone.{finds_standing}
+use Rattle.pp_base.specs.declared.purse.Purse.{Purse}
+use Rattle.pp_base.specs.Made.{HasRun}
+use Rattle.pp_base.specs.Passes.{known, view, Keeping}
+use Rattle.pp_lists.specs.Lists.{list_head, list_field}
+use Rattle.pp_lists.specs.Turns.{mark_step}
+use Rattle.pp_walk.specs.declared.walk.Turn.{Turn}
+use Rattle.pp_walk.specs.declared.walk.Turn.TheVariants.{On, At, Lost}
+use Rattle.pp_walk.specs.Roles.{IsWalk, IsUnder, IsAnchor, StandsOn, HasGathered, nothing, chained}
+use Rattle.pp_walk.specs.Turns.{TurnsTo}
+use Rattle.pp_walk.specs.Lone.{list_opens, words_of, Sees, IsLone, IsOwn, IsStanding}
 
 -- a step is named among its names
 in_names : (x : Step) (xs : List Step) → IsIn x xs → IsIn (name_of x) (map name_of xs)
@@ -200,3 +215,59 @@ module _ (z : Sizes) (was : Walk) (lost : ℕ) (calls : List Placed) (own : List
         ∙ (ap flag_bit (same_words.cells (slot v.known j).named 2 a.0 (omega arith) reached) ∙ lone.held j lt old.0))
         (t.names j lt on)));
   }
+
+-- what the seat of a pass has seen
+pub sees_of : (z : Sizes) (s : Seat Unit ListView) (number share : ℕ) (walk : List ℕ) (p : Purse) → Keeping 0 1 s number share walk p
+    → HasRun 1 0 list_head list_field Lists (λ (c : Change). c.caller) (view s) → (known s).sizes ≡ z → Sees z (view s)
+sees_of z s number share walk p k run sizes = record {
+  sizes = sizes;
+  low = subst (λ (y : Sizes). (known s).number < y.passes) sizes k.pass.pass;
+  seen = run (ap (λ (v : ListView). v.standing) k.lone.1);
+}
+
+-- where a call stands is its head, or a record that the pass holds
+pub own_place : (z : Sizes) (q : ListPass) (w : Walk) → IsWalk z q w → IsOwn z q w.at
+own_place z q w is = by w.fresh is.under
+  where
+    on : (at anchor : Place) → StandsOn z q (key_of w.call) at → IsAnchor z q (key_of w.call) anchor → HasGathered q at anchor → IsOwn z q at
+    on (Head h) anchor stands anchored (nothing f c same) = (subst (λ (p : Place). IsAnchor z q (key_of w.call) p) same anchored).0
+    on (Head h) anchor stands anchored (chained i link e low held apart first some_made learnt flag joined) = absurd (let f : Head h ≡ Word i = e in cc)
+    on (Word i) anchor stands anchored g = (stands.0, stands.1)
+
+    by : (b : Bool) → IsUnder b z q w → IsOwn z q w.at
+    by true u = subst (λ (p : Place). IsOwn z q p) (sym u.1) is.low
+    by false u = on w.at w.anchor u.0.stands u.0.anchored u.0.gathered
+
+-- A turn of a pass alone isn't lost, and leaves no removed record that can be reached.
+pub lone_turns : (z : Sizes) (was w : Walk) (v u : ListView) (r : Turn) → Sees z v
+    → (u.known.sizes ≡ z → Sees z u) → IsWalk z v.known was
+    → TurnsTo z was w v u r → IsLone z v → (r ≢ Lost) × IsLone z u
+lone_turns z was w v u On sv su is t lone = let sees = su (t.goes.turned.rest.sizes ∙ sv.sizes) in
+    ((λ e. cc), lone_now z was 0 [] t.goes.own v u sv sees (own_place z v.known was is) t.goes.turned lone)
+lone_turns z was w v u Lost sv su is t lone = let sees = su (t.goes.turned.rest.sizes ∙ sv.sizes) in
+    absurd (not_one 1 refl (lone_kept z was 1 [] t.goes.own v u sv sees (own_place z v.known was is) t.goes.turned lone))
+  where
+    not_one : (n : ℕ) → n ≡ 1 → n ≡ 0 → ⊥
+    not_one n one none = omega arith
+lone_turns z was w v u (At f) sv su is t lone = let sees = su (t.turned.rest.sizes ∙ sv.sizes) in
+    ((λ e. cc), lone_now z was 0 t.calls t.own v u sv sees (own_place z v.known was is) t.turned lone)
+
+-- An or-step or an exchange of a pass alone finds the word that stands there.
+pub finds_there : {kind place word left : ℕ} {changes : List Change} {placed : List Placed} (z : Sizes) (known : ListPass)
+    (v u : ListView) → z.passes ≡ 1 → Sees z v → Sees z u → MadeStep kind place word left changes placed known v u → stores kind ≡ false
+    → word ≡ get_or (words_of z v) place 0
+finds_there z known v u one sv su made silent = finds_standing 1 list_opens Lists z {caller = λ (c : Change). c.caller} known v u one sv.low made
+    (run_of z u su) silent
+
+-- what is marked by a pass alone had no FLAG
+pub lone_marks : (z : Sizes) (j found : ℕ) (v u : ListView) → Sees z v → Sees z u → j < 5 → (slot v.known j).held ≡ true
+    → (flag_bit found ≡ 1 → MadeQuietStep mark_step (cell_place z (slot v.known j).named 2) found (bit_or found 1) v.known v u)
+    → IsLone z v → flag_bit found ≡ 1 → ⊥
+lone_marks z j found v u sv su low on made lone flag =
+    let there = finds_there z v.known v u lone.one sv su (made flag) refl in
+    let plain : flag_bit found ≡ 0 = ap flag_bit (there ∙ cell_is z (words_of z v) (slot v.known j).named) ∙ lone.held j low on in omega arith
+
+-- an exchange of the word that stands there succeeds
+pub lone_exchanges : (z : Sizes) (at first found : ℕ) (v u : ListView) → Sees z v → Sees z u
+    → (found ≢ first → MadeQuietStep missed_step at found found v.known v u) → IsStanding z at first v → found ≢ first → ⊥
+lone_exchanges z at first found v u sv su made st ne = ne (finds_there z v.known v u st.one sv su (made ne) refl ∙ st.stands)

@@ -1,5 +1,5 @@
 -- A pass that is alone on its pool, where no record that can be reached is removed.
-use Rattle.std.specs.Prelude.{◌≡◌, ℕ, ◌<◌, true, List}
+use Rattle.std.specs.Prelude.{◌≡◌, ℕ, ◌<◌, true, List, slice_index_or}
 use Rattle.pp_link.specs.declared.layout.Sizes.{Sizes}
 use Rattle.pp_link.specs.Links.{flag_bit}
 use Rattle.pp_link.specs.Words.{cell_word}
@@ -38,3 +38,8 @@ pub record IsLone (z : Sizes) (v : ListView) : Type 0 where
 abbrev pub IsOwn : Sizes → ListPass → Place → Type 0
 IsOwn z q (Head h) = h < z.heads
 IsOwn z q (Word i) = (i < 5) × ((slot q i).held ≡ true)
+
+-- It is alone, and this word stands at this place.
+pub record IsStanding (z : Sizes) (place word : ℕ) (v : ListView) : Type 0 where
+  pub one : z.passes ≡ 1
+  pub stands : slice_index_or (words_of z v) place 0 ≡ word

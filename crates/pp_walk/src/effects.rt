@@ -1,6 +1,6 @@
 //! The later turns of a call that changes the list: what a walk found is published behind, marked or detached.
 
-ghost use Rattle.std.specs.Prelude.{◌≡◌, ◌≢◌, ◌<◌, true, false, []};
+ghost use Rattle.std.specs.Prelude.{◌≡◌, ◌≢◌, ◌<◌, true, false, [], IsSome};
 ghost use Rattle.pp_link.specs.Links.{word_of, target};
 ghost use Rattle.pp_model.specs.Calls.{Takes};
 ghost use Rattle.pp_rule.specs.Views.{slot, value_of};
@@ -10,6 +10,7 @@ ghost use Rattle.pp_base.specs.declared.source.Side.TheVariants.{Left};
 ghost use Rattle.pp_unlink.specs.Invalidation.{SameFree};
 ghost use Rattle.pp_walk.specs.Steps.{LeadsTo};
 ghost use Rattle.pp_walk.specs.Roles.{IsPlain};
+ghost use Rattle.pp_walk.specs.Lone.{IsLone, IsStanding};
 ghost use Rattle.pp_walk.specs.Effects.{MayFill, FillsAt, PublishesSo, MarksSo, MayDetachRun, DetachesSo};
 
 use crate::{ListShape, steps};
@@ -29,7 +30,7 @@ pub struct Taken {
 }
 
 /// Publishes a record of the pass behind the anchor that a walk found, before its end. Where the anchor's link doesn't lead to that
-/// end any more, the answer is false.
+/// end any more, the answer is false. A pass that is alone on its pool is never told so where that link stands there.
 pub fn publish_behind(
     pool: &Pool<ListShape>,
     pass: &mut Pass<ListShape>,
@@ -44,6 +45,8 @@ pub fn publish_behind(
     ensures same { IsSame pass.old.seat pass.new.seat }
     ensures published { PublishesSo (source_place pool.now.layout (known pass.old.seat) anchor Left) number pair.0 pair.1 (word_of end)
         (view pass.old.seat) (view pass.new.seat) result }
+    ensures alone { IsStanding pool.now.layout (source_place pool.now.layout (known pass.old.seat) anchor Left) (word_of end)
+        (view pass.old.seat) → result ≡ true }
     ensures purse { pass.new.purse ≡ pass.old.purse }
 {
     let new = Link::pack(number, false, false, false, false);
@@ -66,6 +69,7 @@ pub fn mark_end(
     requires leads { LeadsTo word (known pass.old.seat) }
     ensures same { IsSame pass.old.seat pass.new.seat }
     ensures marks { MarksSo pool.now.layout word call (view pass.old.seat) (view pass.new.seat) result }
+    ensures alone { IsLone pool.now.layout (view pass.old.seat) → IsSome result }
     ensures purse { pass.new.purse ≡ pass.old.purse }
 {
     let found = steps::mark(pool, pass, word, call);

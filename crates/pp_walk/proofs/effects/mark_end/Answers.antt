@@ -7,6 +7,7 @@ use Rattle.pp_rule.specs.Views.{slot}
 use Rattle.pp_walk.specs.Parts.{plain_link}
 use Rattle.pp_base.specs.Passes.{view}
 use Rattle.pp_walk.proofs.Effecting.{flag_of, marks_none, marks_one, held_marked}
+use Rattle.pp_walk.proofs.Lone.{lone_marks, sees_of}
 use Rattle.pp_walk.proofs.effects.mark_end.Goals as goal
 
 pub returns-then-flag-clause-marks : goal.returns-then-flag-clause-marks
@@ -30,3 +31,11 @@ returns-clause-marks c = let v = view c.args.pass.now.seat in let r = c.value-va
     marks_one c.args.pool.now.layout c.args.word c.mark-found.result r.low r.high _ _ c.args.call _ v (view c.mark-found.new.pass.seat)
     (view r.middle) (view c.value-value.new.pass.seat) plain c.mark-found.ensures.marks r.first r.second c.value-value.ensures.value
     (c.pack-next.ensures ∙ ap plain_link (c.number.ensures ∙ c.unpacked-link.ensures.number))
+
+pub returns-then-flag-clause-alone : goal.returns-then-flag-clause-alone
+returns-then-flag-clause-alone c = λ lone. let z = c.args.pool.now.layout in let old = c.args.pass.now in let new = c.mark-found.new.pass in
+    absurd (lone_marks z c.args.word c.mark-found.result (view old.seat) (view new.seat)
+    (sees_of z old.seat _ _ _ _ old.keeping old.run c.requires.fits.sizes)
+    (sees_of z new.seat _ _ _ _ new.keeping new.run (c.mark-found.ensures.same.sizes ∙ c.requires.fits.sizes)) c.requires.word c.requires.held
+    c.mark-found.ensures.marks.lost lone
+    (ap flag_bit (sym c.unpacked-link.ensures.word) ∙ (flag_of c.unpacked-link.result ∙ ap bit (sym c.flag.ensures ∙ c.if-flag.true))))

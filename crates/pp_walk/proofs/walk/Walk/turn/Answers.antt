@@ -10,6 +10,7 @@ use Rattle.pp_walk.specs.Turns.{TurnsTo, Arrives}
 use Rattle.pp_walk.proofs.Whole.{turn_moved, turn_broken, turn_anchors, turn_gathers, turn_ends, turn_nil, back_invalid, walks_u}
 use Rattle.pp_walk.proofs.Whole.{gathered_u, leads_u}
 use Rattle.pp_walk.proofs.Finding.{odd_is}
+use Rattle.pp_walk.proofs.Lone.{lone_turns, sees_of}
 use Rattle.pp_walk.proofs.walk.Walk.turn.Goals as goal
 
 pub returns-then-number-eq0-clause-turned : goal.returns-then-number-eq0-clause-turned
@@ -84,3 +85,45 @@ returns-in-Ends-clause-turned c = let z = c.args.pool.now.layout in let v = view
     c.in-Ends.word c.in-Ends.key c.in-Ends.left _ _ _ w c.in-Ends.ensures.on
     named (let low = (pass.keeping.pass.held c.in-Ends.word s.low s.held).1 in let most = pass.keeping.pass.within.records in omega arith)
     (ap (λ (k : ℕ). nat_eq c.in-Ends.key k) c.key_for.ensures) (odd_is c.in-Ends.left))
+
+pub returns-then-number-eq0-clause-alone : goal.returns-then-number-eq0-clause-alone
+returns-then-number-eq0-clause-alone c = λ lone. let z = c.args.pool.now.layout in let old = c.args.pass.now in let new = c.load_first-first.new.pass in
+    lone_turns z c.args.self.now c.args.self.now (view old.seat) (view new.seat) _
+    (sees_of z old.seat _ _ _ _ old.keeping old.run c.requires.fits.sizes)
+    (λ sizes. sees_of z new.seat _ _ _ _ new.keeping new.run sizes) c.requires.walk (returns-then-number-eq0-clause-turned c) lone
+
+pub returns-then-invalid-clause-alone : goal.returns-then-invalid-clause-alone
+returns-then-invalid-clause-alone c = λ lone. let z = c.args.pool.now.layout in let old = c.args.pass.now in let new = c.rest.new.pass in
+    lone_turns z c.args.self.now _ (view old.seat) (view new.seat) _
+    (sees_of z old.seat _ _ _ _ old.keeping old.run c.requires.fits.sizes)
+    (λ sizes. sees_of z new.seat _ _ _ _ new.keeping new.run sizes) c.requires.walk (returns-then-invalid-clause-turned c) lone
+
+pub returns-in-Moved-clause-alone : goal.returns-in-Moved-clause-alone
+returns-in-Moved-clause-alone c = λ lone. let z = c.args.pool.now.layout in let old = c.args.pass.now in let new = c.come_on.new.pass in
+    lone_turns z c.args.self.now _ (view old.seat) (view new.seat) _
+    (sees_of z old.seat _ _ _ _ old.keeping old.run c.requires.fits.sizes)
+    (λ sizes. sees_of z new.seat _ _ _ _ new.keeping new.run sizes) c.requires.walk (returns-in-Moved-clause-turned c) lone
+
+pub returns-in-Broken-clause-alone : goal.returns-in-Broken-clause-alone
+returns-in-Broken-clause-alone c = λ lone. let z = c.args.pool.now.layout in let old = c.args.pass.now in let new = c.come_on.new.pass in
+    lone_turns z c.args.self.now _ (view old.seat) (view new.seat) _
+    (sees_of z old.seat _ _ _ _ old.keeping old.run c.requires.fits.sizes)
+    (λ sizes. sees_of z new.seat _ _ _ _ new.keeping new.run sizes) c.requires.walk (returns-in-Broken-clause-turned c) lone
+
+pub returns-in-Anchors-clause-alone : goal.returns-in-Anchors-clause-alone
+returns-in-Anchors-clause-alone c = λ lone. let z = c.args.pool.now.layout in let old = c.args.pass.now in let new = c.come_on.new.pass in
+    lone_turns z c.args.self.now _ (view old.seat) (view new.seat) _
+    (sees_of z old.seat _ _ _ _ old.keeping old.run c.requires.fits.sizes)
+    (λ sizes. sees_of z new.seat _ _ _ _ new.keeping new.run sizes) c.requires.walk (returns-in-Anchors-clause-turned c) lone
+
+pub returns-in-Gathers-clause-alone : goal.returns-in-Gathers-clause-alone
+returns-in-Gathers-clause-alone c = λ lone. let z = c.args.pool.now.layout in let old = c.args.pass.now in let new = c.come_on.new.pass in
+    lone_turns z c.args.self.now _ (view old.seat) (view new.seat) _
+    (sees_of z old.seat _ _ _ _ old.keeping old.run c.requires.fits.sizes)
+    (λ sizes. sees_of z new.seat _ _ _ _ new.keeping new.run sizes) c.requires.walk (returns-in-Gathers-clause-turned c) lone
+
+pub returns-in-Ends-clause-alone : goal.returns-in-Ends-clause-alone
+returns-in-Ends-clause-alone c = λ lone. let z = c.args.pool.now.layout in let old = c.args.pass.now in let new = c.come_on.new.pass in
+    lone_turns z c.args.self.now c.args.self.now (view old.seat) (view new.seat) _
+    (sees_of z old.seat _ _ _ _ old.keeping old.run c.requires.fits.sizes)
+    (λ sizes. sees_of z new.seat _ _ _ _ new.keeping new.run sizes) c.requires.walk (returns-in-Ends-clause-turned c) lone
