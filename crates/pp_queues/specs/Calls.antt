@@ -194,6 +194,8 @@ pub record AnswersQueue (z : Sizes) (asked : QueueCall) (budget : ℕ) (before n
   pub stepped : 0 < length (steps_since before now)
   -- where no other caller takes part, it doesn't give up
   pub alone : z.passes ≡ 1 → IsGiven given
+  -- and loses no turn
+  pub none_lost : z.passes ≡ 1 → lost_turns z asked (steps_since before now) ≡ 0
 
 -- the answers of the two calls, as one type
 abbrev pub put_answer : Result Unit InsertFault → QueueAnswer
