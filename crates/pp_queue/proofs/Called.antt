@@ -100,7 +100,7 @@ joined passes t u v w a b = record {
 
 module _ (z : Sizes) (races : ℕ) (v0 v1 w : QueueView) (p0 p1 p2 : Purse) (share : ℕ) (few : 1 ≤ races) (b : Idles z.passes v1 w)
     (tidy : Tidies z share v1 w p1 p2) (same : SameFree p0 p1) (chains : length w.known.chains ≤ 4) (own : HasOwn w.order)
-    (stands : StandsThen v0) where
+    (stands : StandsThen v0) (level : z.passes ≡ 1 → v0.known.own.behind ≡ false) where
   shared_all : (t : Tally) → Ran z.passes (losing 0 0) t v0 v1
       → (length p2.free.items ≤ share) ⊎ FoundTaken (map_sizes z) (steps_made v0 w)
   shared_all t a = ⊎_elim (λ (le : length p2.free.items ≤ share). inl le)
@@ -150,6 +150,8 @@ module _ (z : Sizes) (races : ℕ) (v0 v1 w : QueueView) (p0 p1 p2 : Purse) (sha
         purse = tidies z call.Take v0 w f0 f2 share t r real tidy.few chains (shared_all t n.ran) kept_all;
         full = tt;
         stepped = stepped z call.Take v0 w f0 f2 share t r real;
+        alone = λ _. tt;
+        none_lost = λ one. lost_is z call.Take v0 w f0 f2 share t r real ∙ n.alone one (level one);
       }
 
   took_value : (v : ℕ) → TookValue z.passes races v v0 v1
@@ -170,6 +172,8 @@ module _ (z : Sizes) (races : ℕ) (v0 v1 w : QueueView) (p0 p1 p2 : Purse) (sha
         purse = tidies z call.Take v0 w f0 f2 share t r real tidy.few chains (shared_all t n.ran) kept_all;
         full = tt;
         stepped = stepped z call.Take v0 w f0 f2 share t r real;
+        alone = λ _. tt;
+        none_lost = λ one. lost_is z call.Take v0 w f0 f2 share t r real ∙ n.alone one (level one);
       }
 
   took_lost : (e : Lost) → GaveUp z.passes e.turns races v0 v1
@@ -191,6 +195,8 @@ module _ (z : Sizes) (races : ℕ) (v0 v1 w : QueueView) (p0 p1 p2 : Purse) (sha
         purse = tidies z call.Take v0 w f0 f2 share t r real tidy.few chains (shared_all t n.ran) kept_all;
         full = tt;
         stepped = stepped z call.Take v0 w f0 f2 share t r real;
+        alone = λ one. n.others one (level one);
+        none_lost = λ one. absurd (n.others one (level one));
       }
 
   -- A take answers so.
@@ -236,13 +242,15 @@ put_full z races value v w p p' share few b out chains own stands = let t : Tall
       purse = tidies z asked v w f0 f1 share t r real (omega arith) chains (inl (omega arith)) (omega arith);
       full = record { none = out.none; retired_few = out.retired_few };
       stepped = stepped z asked v w f0 f1 share t r real;
+      alone = λ _. tt;
+      none_lost = λ one. lost_is z asked v w f0 f1 share t r real;
     }
 
 -- A put with its record: it was taken and filled, then linked or not, and then the call tidied.
 module _ (z : Sizes) (races value : ℕ) (v0 v1 v2 w : QueueView) (p0 p2 p3 : Purse) (share : ℕ) (pre : Idles z.passes v0 v1)
     (b : Idles z.passes v2 w) (tidy : Tidies z share v2 w p2 p3) (chains : length w.known.chains ≤ 4) (own : HasOwn w.order)
     (stands : StandsThen v0) (first : v1.known.number ≡ v0.known.number)
-    (kept : length p0.free.items ≤ length p2.free.items + 1) where
+    (kept : length p0.free.items ≤ length p2.free.items + 1) (level : z.passes ≡ 1 → v1.known.own.behind ≡ false) where
   shared_put : (t : Tally) → Ran z.passes (losing 0 0) t v1 v2
       → (length p3.free.items ≤ share) ⊎ FoundTaken (map_sizes z) (steps_made v0 w)
   shared_put t a = ⊎_elim (λ (le : length p3.free.items ≤ share). inl le)
@@ -287,6 +295,8 @@ module _ (z : Sizes) (races value : ℕ) (v0 v1 v2 w : QueueView) (p0 p2 p3 : Pu
         purse = tidies z (call.Put value) v0 w f0 f3 share t r real tidy.few chains (shared_put t n.ran) kept_put;
         full = tt;
         stepped = stepped z (call.Put value) v0 w f0 f3 share t r real;
+        alone = λ _. tt;
+        none_lost = λ one. lost_is z (call.Put value) v0 w f0 f3 share t r real ∙ n.alone one (level one);
       }
 
   pub put_lost : (turns : ℕ) → GaveUp z.passes turns races v1 v2
@@ -307,6 +317,8 @@ module _ (z : Sizes) (races value : ℕ) (v0 v1 v2 w : QueueView) (p0 p2 p3 : Pu
         purse = tidies z (call.Put value) v0 w f0 f3 share t r real tidy.few chains (shared_put t n.ran) kept_put;
         full = tt;
         stepped = stepped z (call.Put value) v0 w f0 f3 share t r real;
+        alone = λ one. n.others one (level one);
+        none_lost = λ one. absurd (n.others one (level one));
       }
 
 -- the pass is the same where its seat is

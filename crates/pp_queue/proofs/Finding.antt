@@ -1,5 +1,5 @@
 -- What the one pass of a queue finds at the steps of its calls.
-use Rattle.std.proofs.Common.{◌≡◌, ◌≢◌, ℕ, ◌+◌, ◌*◌, ◌<◌, ◌≤◌, Bool, true, false, List, [], get_or, set, refl, sym, ap, ◌∙◌, subst, arith}
+use Rattle.std.proofs.Common.{◌≡◌, ◌≢◌, ℕ, zero, suc, length, ◌+◌, ◌*◌, ◌<◌, ◌≤◌, Bool, true, false, List, [], get_or, set, refl, sym, ap, ◌∙◌, subst, arith}
 use Rattle.std.proofs.Math.Bool.{false≢true}
 use Rattle.std.proofs.Math.Decide.{ℕ_discrete}
 use mathlib.Core.Logic.{dite}
@@ -16,6 +16,13 @@ use Rattle.pp_queues.specs.Queues.{QueuePass, QueueView}
 use Rattle.pp_queues.specs.Turns.{stand, Came, Saw, Looked, Tried, Advanced, Took}
 use Rattle.pp_queue.specs.Calling.{StandsAt, IsHeadWord}
 use Rattle.pp_queue.specs.Steps.{LinkedAt}
+use Rattle.atomic_table.specs.declared.shared.Seat.{Seat}
+use Rattle.pp_base.specs.declared.purse.Purse.{Purse}
+use Rattle.pp_base.specs.Passes.{known, view}
+use Rattle.pp_unlink.specs.Invalidation.{Flushed}
+use Rattle.pp_reclaim.specs.Sweeps.{Reclaims}
+use Rattle.pp_shelf.specs.Shelves.{MovesFree}
+use Rattle.pp_queues.specs.declared.own.QueueOwn.{QueueOwn}
 use Rattle.pp_queue.specs.Standing.{words_of, word_in, StaysUp}
 use Rattle.pp_queue.proofs.Passing.{stand_is}
 use Rattle.pp_queue.proofs.Standing.{HasSeenQueue, found_here, words_stay, others_stay, last_nil, link_valid}
@@ -189,3 +196,19 @@ pub load_left : {kind place word : ℕ} {cs : List QueueChange} {ps : List Queue
     → v.known.number < v.known.sizes.passes → HasSeenQueue w → stores kind ≡ false → word ≡ word_in w place
 load_left {place = place} v w made sizes one low seen loads = found_here v w made sizes one low seen loads
     ∙ sym (ap (λ (ws : List ℕ). get_or ws place 0) (words_stay v w made sizes one low seen loads refl))
+
+-- so do the steps of a reclaim pass and those at shelf words
+flushed_own : (z : Sizes) (n : ℕ) (v w : QueueView) → Flushed 1 z n v w → w.known.own ≡ v.known.own
+flushed_own z zero v w is = ap (λ (u : QueueView). u.known.own) is
+flushed_own z (suc n) v w (next, (one, rest)) = flushed_own z n next w rest ∙ ap (λ (q : QueuePass). q.own) one.known
+
+pub up_reclaimed : (z : Sizes) (many : ℕ) (s s' : Seat Unit QueueView) (p p' : Purse) → Reclaims 1 z many s s' p p'
+    → StaysUp (known s) (known s')
+up_reclaimed z many s s' p p' r up = ap (λ (q : QueuePass). q.own.behind) r.swept.known_is
+    ∙ (ap (λ (o : QueueOwn). o.behind) (flushed_own z (length (known s).chains) (view s) (view r.between) r.flushed) ∙ up)
+
+pub up_shelved : (q q' : QueuePass) (p p' : Purse) → MovesFree q q' p p' → StaysUp q q'
+up_shelved q q' p p' m up = ap (λ (q : QueuePass). q.own.behind) m.known ∙ up
+
+pub up_seat : (s s' : Seat Unit QueueView) → s' ≡ s → StaysUp (known s) (known s')
+up_seat s s' is up = ap (λ (s : Seat Unit QueueView). (known s).own.behind) is ∙ up

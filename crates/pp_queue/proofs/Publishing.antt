@@ -32,6 +32,8 @@ use Rattle.pp_queue.specs.Answers.{PutDone}
 use Rattle.pp_queues.specs.declared.calls.QueueCall.TheVariants as call
 use Rattle.pp_queues.specs.declared.calls.QueueReply.TheVariants as said
 use Rattle.pp_queue.proofs.Staying.{one_fewer, times_removed}
+use Rattle.std.proofs.Math.Bool.{false≢true}
+use Rattle.pp_rule.proofs.Made.{known_after}
 
 -- what stands at an index of the numbers is the number of what stands there
 number_at : (ds : List PrivateRecord) (i n : ℕ) → get_elem? (map number_of ds) i ≡ some n
@@ -65,7 +67,7 @@ published_linked q q' p p' n i d once at number owned same counted =
 module _ (z : Sizes) (first word n : ℕ) (v0 v2 v3 v4 v5 : QueueView) (a : Ran z.passes (losing first n) (losing word n) v0 v2)
     (m place new : ℕ) (l : LinkedAt m place new 0 v2 v3) (old next found : ℕ)
     (adv : Advanced (head_place z 1) old next found v3 v4)
-    (rest : (t : Tally) → Ran z.passes t t v4 v5) where
+    (rest : (t : Tally) → Ran z.passes t t v4 v5) (kept : v5.known.own.behind ≡ v4.known.own.behind) where
   pub put_struck : PutStruck z first n v0 v5
   unfolding ran_both ran_one ran_quiet stepped_both stepped_one
   put_struck = dite (ℕ_discrete found old)
@@ -76,6 +78,7 @@ module _ (z : Sizes) (first word n : ℕ) (v0 v2 v3 v4 v5 : QueueView) (a : Ran 
         counted = t;
         struck = (refl, refl);
         ran = ran_both z.passes (losing first n) t t v0 v3 v5 front back;
+        up = λ _. refl;
         tried = record {
           earlier = a.stepped.steps;
           linking = link_step;
@@ -97,6 +100,9 @@ module _ (z : Sizes) (first word n : ℕ) (v0 v2 v3 v4 v5 : QueueView) (a : Ran 
         counted = u;
         struck = (refl, refl);
         ran = ran_both z.passes (losing first n) t u v0 v3 v5 front back;
+        up = λ down. absurd (false≢true (sym down
+            ∙ (kept ∙ (ap (λ (q : QueuePass). q.own.behind) (known_after _ _ _ _ _ _ _ v3 v4 (adv.other ne))
+            ∙ ap (λ (q : QueuePass). q.own.behind) (known_after _ _ _ _ _ _ _ v2 v3 (l.made.same refl))))));
         tried = record {
           earlier = a.stepped.steps;
           linking = link_step;
@@ -179,9 +185,10 @@ tried_on z xs ys t = record {
 -- A put took effect in its last turn.
 pub put_after : (z : Sizes) (races v first n : ℕ) (u w x : QueueView) (a : Ran z.passes (losing 0 0) (losing first n) u w)
     → 0 < length a.stepped.steps → PutStruck z first n w x → Struck (call.Put v) said.Put u x → n < races
-    → (z.passes ≡ 1 → u.known.own.behind ≡ false → x.known.own.behind ≡ false) → PutDone z races v u x
+    → (z.passes ≡ 1 → u.known.own.behind ≡ false → x.known.own.behind ≡ false)
+    → (z.passes ≡ 1 → u.known.own.behind ≡ false → n ≡ 0) → PutDone z races v u x
 unfolding ran_both stepped_both
-put_after z races v first n u w x a real s struck few up = record {
+put_after z races v first n u w x a real s struck few up none = record {
   struck = struck;
   lost = n;
   few = few;
@@ -191,4 +198,5 @@ put_after z races v first n u w x a real s struck few up = record {
   some = let long = length-append a.stepped.steps s.ran.stepped.steps in omega arith;
   tried = tried_later z a.stepped.steps s.ran.stepped.steps s.tried;
   up = up;
+  alone = λ one was. s.up (up one was) ∙ none one was;
 }

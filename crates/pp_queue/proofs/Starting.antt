@@ -1,11 +1,11 @@
 -- The passes of a queue as it starts.
-use Rattle.std.proofs.Common.{◌≡◌, ℕ, List, [], ◌∷◌, length, refl, sym, ap, ap₂, ◌∙◌, subst}
+use Rattle.std.proofs.Common.{◌≡◌, ℕ, false, List, [], ◌∷◌, length, refl, sym, ap, ap₂, ◌∙◌, subst}
 use Rattle.atomic_table.specs.declared.shared.Seat.{Seat}
 use Rattle.pp_link.specs.declared.layout.Sizes.{Sizes}
 use Rattle.pp_rule.specs.Opening.{dealt, share_of, start_of, numbers_from}
 use Rattle.pp_rule.specs.Orders.{log_of, made_by, placed_by, entries_of}
 use Rattle.pp_rule.specs.Steps.{alone}
-use Rattle.pp_base.specs.Passes.{view}
+use Rattle.pp_base.specs.Passes.{known, view}
 use Rattle.pp_queues.specs.Calls.{QueuePassView, queue_view}
 use Rattle.pp_queues.specs.Queues.{QueueView, nobody}
 use Rattle.pp_queues.specs.Turns.{StandsThen}
@@ -44,3 +44,9 @@ pub starts_new : (s : Seat Unit QueueView) (z : Sizes) (k : ℕ) (free : List �
     → queue_view (view s) free share ≡ new_view z k
 starts_new s z k free share e free_is share_is = ap (λ (v : QueueView). queue_view v free share) (ap (λ m. m.0) e)
     ∙ (ap₂ (λ (f : List ℕ) (n : ℕ). queue_view (alone [] (dealt 1 nobody z k)) f n) free_is share_is ∙ new_seen z k)
+
+-- it has left no record behind head 1
+pub starts_up : (s : Seat Unit QueueView) (z : Sizes) (k : ℕ) → s.me ≡ (alone [] (dealt 1 nobody z k), [])
+    → (known s).own.behind ≡ false
+unfolding dealt
+starts_up s z k e = ap (λ m. m.0.known.own.behind) e

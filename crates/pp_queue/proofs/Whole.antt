@@ -97,9 +97,9 @@ begun passes t'' place found u v w b r = let x = started passes (losing 0 0) (lo
 
 pub took_none : (passes races turns word : ℕ) (u v w : QueueView) → Began u v → SaidEmpty v w → turns < races
     → (x : Ran passes (losing 0 0) (losing word turns) u w) → seen_first 0 x.stepped.steps ≡ v.known.own.start
-    → 0 < length x.stepped.steps
+    → 0 < length x.stepped.steps → (passes ≡ 1 → u.known.own.behind ≡ false → turns ≡ 0)
     → TookNone passes races u w
-took_none passes races turns word u v w b e few x started real = record {
+took_none passes races turns word u v w b e few x started real alone = record {
   start = v.known.own.start;
   from = b.since;
   place = e.place;
@@ -115,6 +115,7 @@ took_none passes races turns word u v w b e few x started real = record {
   ran = x;
   some = real;
   started = started;
+  alone = alone;
 }
 
 pub took_one : (n : ℕ) (u v w : QueueView) → Began u v → TookOff n v w → TookOff n u w

@@ -78,6 +78,8 @@ pub record TookNone (passes races : ℕ) (before now : QueueView) : Type 0 where
   pub ran : Ran passes (losing 0 0) (losing word lost) before now
   pub some : 0 < length ran.stepped.steps
   pub started : seen_first 0 ran.stepped.steps ≡ start
+  -- none where the pass is alone
+  pub alone : passes ≡ 1 → before.known.own.behind ≡ false → lost ≡ 0
 
 -- It took this value.
 pub record TookValue (passes races v : ℕ) (before now : QueueView) : Type 0 where
@@ -87,6 +89,7 @@ pub record TookValue (passes races v : ℕ) (before now : QueueView) : Type 0 wh
   pub few : lost < races
   pub ran : Ran passes (losing 0 0) (striking word lost) before now
   pub some : 0 < length ran.stepped.steps
+  pub alone : passes ≡ 1 → before.known.own.behind ≡ false → lost ≡ 0
 
 -- It lost as many turns as it may, and no call was placed.
 pub record GaveUp (passes turns races : ℕ) (before now : QueueView) : Type 0 where
@@ -116,6 +119,7 @@ pub record PutDone (z : Sizes) (races v : ℕ) (before now : QueueView) : Type 0
   pub tried : TriedToMove z ran.stepped.steps
   -- where the pass is alone, it has moved head 1 on
   pub up : z.passes ≡ 1 → before.known.own.behind ≡ false → now.known.own.behind ≡ false
+  pub alone : z.passes ≡ 1 → before.known.own.behind ≡ false → counted.lost ≡ 0
 
 -- what a put was answered
 abbrev pub PutSays : Sizes → ℕ → ℕ → Result Unit Lost → QueueView → QueueView → Type 0

@@ -170,6 +170,8 @@ pub record PutStruck (z : Sizes) (first n : ℕ) (before now : QueueView) : Type
   pub counted : Tally
   pub struck : HasStruck n counted
   pub ran : Ran z.passes (losing first n) counted before now
+  -- where it moved head 1 on, it lost no more
+  pub up : now.known.own.behind ≡ false → counted.lost ≡ n
   pub tried : TriedToMove z ran.stepped.steps
 
 -- what the steps of a turn of a put count: before it so many turns were lost

@@ -1,5 +1,5 @@
 -- The passes of a queue.
-use Rattle.std.specs.Prelude.{◌≡◌, ℕ, []}
+use Rattle.std.specs.Prelude.{◌≡◌, ℕ, false, []}
 use Rattle.pp_link.specs.declared.layout.Sizes.{Sizes}
 use Rattle.pp_rule.specs.Opening.{share_of, start_of, numbers_from}
 use Rattle.pp_rule.specs.declared.shape.Shape.{Ghosts}
@@ -23,6 +23,8 @@ module _ {S : Type 0} {shape : Ghosts S QueueChange QueuePlaced QueueOwn} where
     pub idle : IsIdle p.walk p.purse
     pub rest : IsAtRest (known p.seat) p.purse
     pub stands : StandsThen (view p.seat)
+    -- where it is the only one, it has left no record behind head 1
+    pub up : q.pool.layout.passes ≡ 1 → (known p.seat).own.behind ≡ false
 
   -- It is the pass of the caller c as its queue starts: it has done and seen nothing, and the records of its share are free.
   pub record IsNew (z : Sizes) (c : ℕ) (p : Pass S QueueChange QueuePlaced QueueOwn shape) : Type 0 where

@@ -4,6 +4,7 @@ ghost use Rattle.std.specs.Prelude.{◌≡◌, IfSome, IfNone};
 ghost use Rattle.pp_base.specs.Passes.{known, view, Fits, IsSame, IsAtRest};
 ghost use Rattle.pp_pool.specs.Taken.{IsPrivate};
 ghost use Rattle.pp_queue.specs.Calling.{HasRecord, SameLists};
+ghost use Rattle.pp_queue.specs.Standing.{StaysUp};
 ghost use Rattle.pp_queue.specs.Answers.{Idles, HasTaken, RanOut};
 
 use crate::QueueShape;
@@ -20,6 +21,7 @@ pub fn take_record(pool: &Pool<QueueShape>, pass: &mut Pass<QueueShape>) -> Opti
     requires rest { IsAtRest (known pass.old.seat) pass.old.purse }
     requires back { pass.old.purse.taken ≡ 0 }
     ensures same { IsSame pass.old.seat pass.new.seat }
+    ensures up { StaysUp (known pass.old.seat) (known pass.new.seat) }
     ensures idles { Idles pool.now.layout.passes (view pass.old.seat) (view pass.new.seat) }
     ensures some { IfSome result (λ f. HasTaken f.number (known pass.new.seat) pass.old.purse pass.new.purse) }
     ensures none { IfNone result (RanOut pool.now.layout
@@ -42,6 +44,7 @@ pub fn fill(pool: &Pool<QueueShape>, pass: &mut Pass<QueueShape>, fresh: &Fresh,
     requires fits { Fits pool.now.table.shared.table_id pool.now.layout pass.old.seat }
     requires private { IsPrivate (known pass.old.seat) pass.old.purse fresh.now.number }
     ensures same { IsSame pass.old.seat pass.new.seat }
+    ensures up { StaysUp (known pass.old.seat) (known pass.new.seat) }
     ensures idles { Idles pool.now.layout.passes (view pass.old.seat) (view pass.new.seat) }
     ensures has { HasRecord (known pass.new.seat) pass.new.purse fresh.now.number value }
     ensures lists { SameLists (known pass.old.seat) (known pass.new.seat) }

@@ -6,6 +6,7 @@ ghost use Rattle.pp_rule.specs.Lists.{BeginsWith};
 ghost use Rattle.pp_base.specs.Passes.{known, view, Fits, IsSame, IsAtRest};
 ghost use Rattle.pp_shelf.specs.Runs.{steps_made};
 ghost use Rattle.pp_queues.specs.Calls.{map_sizes};
+ghost use Rattle.pp_queue.specs.Standing.{StaysUp};
 ghost use Rattle.pp_queue.specs.Answers.{Idles, SameCounts, Tidies};
 
 use crate::QueueShape;
@@ -18,6 +19,7 @@ fn reclaim_many(pool: &Pool<QueueShape>, pass: &mut Pass<QueueShape>)
     requires fits { Fits pool.now.table.shared.table_id pool.now.layout pass.old.seat }
     requires rest { IsAtRest (known pass.old.seat) pass.old.purse }
     ensures same { IsSame pass.old.seat pass.new.seat }
+    ensures up { StaysUp (known pass.old.seat) (known pass.new.seat) }
     ensures idles { Idles pool.now.layout.passes (view pass.old.seat) (view pass.new.seat) }
     ensures few { length (known pass.new.seat).retired ≤ 2 * (9 * pool.now.layout.passes) }
     ensures free { BeginsWith pass.new.purse.free.items pass.old.purse.free.items }
@@ -38,6 +40,7 @@ pub fn finish(pool: &Pool<QueueShape>, pass: &mut Pass<QueueShape>)
     requires fits { Fits pool.now.table.shared.table_id pool.now.layout pass.old.seat }
     requires rest { IsAtRest (known pass.old.seat) pass.old.purse }
     ensures same { IsSame pass.old.seat pass.new.seat }
+    ensures up { StaysUp (known pass.old.seat) (known pass.new.seat) }
     ensures idles { Idles pool.now.layout.passes (view pass.old.seat) (view pass.new.seat) }
     ensures tidies { Tidies pool.now.layout pass.old.share
         (view pass.old.seat) (view pass.new.seat) pass.old.purse pass.new.purse }

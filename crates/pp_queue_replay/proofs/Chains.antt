@@ -1,5 +1,5 @@
 -- What a chain of calls on one pass of a queue leaves.
-use Rattle.std.proofs.Common.{◌≡◌, ℕ, ◌+◌, ◌≤◌, List, [], ◌∷◌, ◌++◌, length, map, refl, sym, ap, ◌∙◌, arith}
+use Rattle.std.proofs.Common.{◌≡◌, ℕ, ◌+◌, ◌≤◌, true, List, [], ◌∷◌, ◌++◌, length, map, refl, sym, ap, ◌∙◌, arith}
 use Rattle.std.proofs.Common.{length-append, append_assoc, append-nil, ⊎_elim, Some}
 use Rattle.std.specs.Prelude.{slice_get}
 use Rattle.std.proofs.lemmas.List.{map-append}
@@ -10,7 +10,8 @@ use Rattle.pp_queues.specs.declared.calls.QueueAnswer.{QueueAnswer}
 use Rattle.pp_queues.specs.declared.calls.QueueAnswer.TheVariants.{Said, Full, Lost}
 use Rattle.pp_queues.specs.declared.calls.QueueCall.{QueueCall}
 use Rattle.pp_queues.specs.declared.calls.QueueCall.TheVariants.{Put, Take}
-use Rattle.pp_queues.specs.Calls.{QueuePassView, Says, AnswersQueue, spends}
+use Rattle.pp_queues.specs.Calls.{QueuePassView, Says, AnswersQueue, IsGiven, spends}
+use Rattle.pp_queue_replay.specs.Text.{is_lost}
 use Rattle.pp_queue_replay.specs.Runs.{AnswersCalls, none, more, SaidCall, said_call, said_calls, puts}
 
 module _ (z : Sizes) (races : ℕ) (before : QueuePassView) where
@@ -98,3 +99,17 @@ module _ (z : Sizes) (races : ℕ) (before : QueuePassView) where
       last Take Full made free e = let same = made.says.puts.1 in cc
       last c (Said r) made free e = cc
       last c (Lost t) made free e = cc
+
+  -- A pass of a pool with no other pass never gives up.
+  pub never_lost : z.passes ≡ 1 → (now : QueuePassView) (calls : List QueueCall) (answers : List QueueAnswer)
+      → AnswersCalls z races before calls answers now → AtEach answers (λ k a. is_lost a ≡ true → ⊥)
+  never_lost one now calls answers none k a at is = absurd cc
+  never_lost one now calls answers (more cs given then_at _ call answer ran made) k a at is = ⊎_elim
+      (λ (old : slice_get given k ≡ Some a). never_lost one then_at cs given ran k a old is)
+      (λ (new : (k ≡ length given) × (a ≡ answer)). last answer (made.alone one) (sym (ap is_lost new.1) ∙ is))
+      (slice_get_push given answer k a at)
+    where
+      last : (b : QueueAnswer) → IsGiven b → is_lost b ≡ true → ⊥
+      last (Said r) given e = cc
+      last Full given e = cc
+      last (Lost t) given e = given

@@ -27,8 +27,8 @@ use Rattle.pp_queue.specs.Passes.{IsNew, pass_seen, queue_sizes}
 use Rattle.pp_queue_replay.specs.Parts.{AreShort}
 use Rattle.pp_queue_replay.specs.Replay.{IsRunUnder}
 use Rattle.pp_queue_replay.specs.Runs.{IsOpened, IsRunOf, IsCaller, puts}
-use Rattle.pp_queue_replay.specs.Text.{count_all, is_full}
-use Rattle.pp_queue_replay.proofs.Chains.{answers_each, never_full}
+use Rattle.pp_queue_replay.specs.Text.{count_all, is_full, is_lost}
+use Rattle.pp_queue_replay.proofs.Chains.{answers_each, never_full, never_lost}
 use Rattle.pp_queue_replay.proofs.Lists.{mapped_at}
 
 numbers_long : (low n : ℕ) → length (numbers_from low n) ≡ n
@@ -112,6 +112,10 @@ module _ (settings : Settings) (within : InRange settings) (opened : List QueueP
         let never = never_full (queue_sizes settings.callers settings.records) settings.races pass.0 one.closed list.0 got one.made
         (ran.passes c pass.0 pass.1).free fits in
         none_counted is_full got (λ k a here yes. never k a here (full_is a yes)));
+    none_lost = λ alone. none_of_all is_lost answers (λ c got at.
+        let one = chain c got at in
+        none_counted is_lost got (never_lost (queue_sizes settings.callers settings.records) settings.races (pass_for c got at).0
+        alone one.closed (list_for c got at).0 got one.made));
   }
 
   -- one answer a call

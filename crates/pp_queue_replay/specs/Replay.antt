@@ -65,6 +65,8 @@ pub record IsRunUnder (settings : Settings) (lists : List (List QueueCall)) (ans
   pub ran : IsRunOf (queue_sizes settings.callers settings.records) settings.races opened lists answers items run
   -- no line is full where each caller's share is at least the number of its puts
   pub none_full : AtEach lists (λ c calls. puts calls ≤ share_of 1 run.sizes c) → count_all is_full answers ≡ 0
+  -- no line is lost where there is one caller
+  pub none_lost : settings.callers ≡ 1 → count_all is_lost answers ≡ 0
 
 -- The words say settings; the source says each caller's calls; a run of a queue answered them; and the text is that of the answers
 -- and of the items after the whole log.

@@ -175,6 +175,12 @@ LeavesFull z now (answer.Said r) = Unit {0}
 LeavesFull z now answer.Full = FullPurse z now
 LeavesFull z now (answer.Lost turns) = Unit {0}
 
+-- the call didn't give up
+abbrev pub IsGiven : QueueAnswer → Type 0
+IsGiven (answer.Said r) = Unit {0}
+IsGiven answer.Full = Unit {0}
+IsGiven (answer.Lost turns) = ⊥
+
 -- A call on a queue was made with this budget of lost turns, from its begin to this answer.
 pub record AnswersQueue (z : Sizes) (asked : QueueCall) (budget : ℕ) (before now : QueuePassView)
     (given : QueueAnswer) : Type 0 where
@@ -186,6 +192,10 @@ pub record AnswersQueue (z : Sizes) (asked : QueueCall) (budget : ℕ) (before n
   pub purse : Tidied z asked before now
   pub full : LeavesFull z now given
   pub stepped : 0 < length (steps_since before now)
+  -- where no other caller takes part, it doesn't give up
+  pub alone : z.passes ≡ 1 → IsGiven given
+  -- and loses no turn
+  pub none_lost : z.passes ≡ 1 → lost_turns z asked (steps_since before now) ≡ 0
 
 -- the answers of the two calls, as one type
 abbrev pub put_answer : Result Unit InsertFault → QueueAnswer

@@ -112,6 +112,7 @@ returns-then-linked-clause-steps c = λ n.
     put_struck z first link n v0 v2 v3 v4 v5 seen c.args.number place (16 * c.args.number) l first
     (16 * c.args.number) c.advance.result
     c.advance.ensures.advanced (λ t. ran_idle passes v4 v5 t c.clear.ensures.made refl refl)
+    (ap (λ (q : QueuePass). q.own.behind) (known_after _ _ _ _ _ _ _ v4 v5 c.clear.ensures.made))
 
 pub returns-then-last-clause-steps : goal.returns-then-last-clause-steps
 returns-then-last-clause-steps c = λ n.

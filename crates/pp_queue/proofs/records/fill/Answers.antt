@@ -5,6 +5,7 @@ use Rattle.pp_link.specs.declared.layout.Field.TheVariants as fields
 use Rattle.pp_base.specs.Made.{WroteOwned}
 use Rattle.pp_queue.proofs.Filling.{filled, fill_lists, fill_idles, both_halves}
 use Rattle.pp_queue.proofs.records.fill.Goals as goal
+use Rattle.pp_queue.proofs.Finding.{up_made, up_on}
 
 pub returns-clause-has : goal.returns-clause-has
 returns-clause-has c = let w = c.set_value.ensures.wrote in let pass = c.set_link.new.pass in
@@ -34,3 +35,9 @@ returns-clause-lists c = let w = c.set_value.ensures.wrote in let pass = c.set_l
     (view pass.seat) c.args.fresh.now.number
     (c.args.value % 2 ^ 64) (c.args.value / 2 ^ 64) _ _ _ w.low w.high linked c.args.pass.now.keeping.pass.owned_once
     c.set_value.new.pass.keeping.pass.owned_once
+
+pub returns-clause-up : goal.returns-clause-up
+returns-clause-up c = let w = c.set_value.ensures.wrote in let v0 = view c.args.pass.now.seat in let v1 = view w.middle in
+    let v2 = view c.set_value.new.pass.seat in let v3 = view c.set_link.new.pass.seat in
+    up_on v0.known v1.known v3.known (up_made v0 v1 w.low.made refl)
+    (up_on v1.known v2.known v3.known (up_made v1 v2 w.high.made refl) (up_made v2 v3 c.set_link.ensures.wrote.made refl))

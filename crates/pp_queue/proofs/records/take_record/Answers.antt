@@ -7,6 +7,7 @@ use Rattle.pp_queue.specs.Answers.{RanOut, Idles}
 use Rattle.pp_queue.proofs.Idling.{idles_none, idles_both, idles_reclaimed, idles_collected}
 use Rattle.pp_queue.proofs.Reclaiming.{ran_out, if_none}
 use Rattle.pp_queue.proofs.records.take_record.Goals as goal
+use Rattle.pp_queue.proofs.Finding.{up_made, up_on, up_seat, up_reclaimed, up_shelved}
 
 pub returns-in-Some-clause-idles : goal.returns-in-Some-clause-idles
 returns-in-Some-clause-idles c = idles_none c.args.pool.now.layout.passes (view c.args.pass.now.seat) (view c.take.new.pass.seat)
@@ -55,3 +56,15 @@ returns-in-None-clause-none c = let z = c.args.pool.now.layout in let s0 = c.arg
     (⊎_elim (λ (enough : 1 ≤ length p2.free.items). absurd (omega arith)) (λ x. x) c.collect.ensures.ends) (omega arith)
     c.take-in-None.ensures.seat e.1 c.collect.ensures.only)
     c.take-in-None.ensures.none
+
+pub returns-in-Some-clause-up : goal.returns-in-Some-clause-up
+returns-in-Some-clause-up c = up_seat c.args.pass.now.seat c.take.new.pass.seat c.take.ensures.seat
+
+pub returns-in-None-clause-up : goal.returns-in-None-clause-up
+returns-in-None-clause-up c = let z = c.args.pool.now.layout in let s0 = c.args.pass.now.seat in let first = c.take.new.pass in
+    let p1 = c.reclaim.new.pass in let p2 = c.collect.new.pass in let s3 = c.take-in-None.new.pass.seat in
+    up_on (known s0) (known first.seat) (known s3) (up_seat s0 first.seat c.take.ensures.seat)
+    (up_on (known first.seat) (known p1.seat) (known s3)
+    (up_reclaimed z _ first.seat p1.seat first.purse p1.purse c.reclaim.ensures.reclaims)
+    (up_on (known p1.seat) (known p2.seat) (known s3) (up_shelved (known p1.seat) (known p2.seat) p1.purse p2.purse c.collect.ensures.only)
+    (up_seat p2.seat s3 c.take-in-None.ensures.seat)))

@@ -5,6 +5,7 @@ use Rattle.pp_queue.specs.Answers.{Tidies}
 use Rattle.pp_queue.proofs.Idling.{idles_both, idles_tidied}
 use Rattle.pp_queue.proofs.Finishing.{tidied}
 use Rattle.pp_queue.proofs.tidying.finish.Goals as goal
+use Rattle.pp_queue.proofs.Finding.{up_on, up_shelved}
 
 pub returns-clause-idles : goal.returns-clause-idles
 returns-clause-idles c = let z = c.args.pool.now.layout in let v0 = view c.args.pass.now.seat in
@@ -28,3 +29,8 @@ returns-clause-tidies c = let z = c.args.pool.now.layout in let v0 = view c.args
 
 pub returns-clause-rest : goal.returns-clause-rest
 returns-clause-rest c = c.tidy.ensures.only.rest c.reclaim_many.ensures.rest
+
+pub returns-clause-up : goal.returns-clause-up
+returns-clause-up c = let p1 = c.reclaim_many.new.pass in let p2 = c.tidy.new.pass in
+    up_on (known c.args.pass.now.seat) (known p1.seat) (known p2.seat) c.reclaim_many.ensures.up
+    (up_shelved (known p1.seat) (known p2.seat) p1.purse p2.purse c.tidy.ensures.only)

@@ -32,6 +32,7 @@ again-init c = let v0 = view c.args.pass.now.seat in let v1 = view c.load_end-fi
         load_left v0 v1 e.made refl (ap (λ (y : Sizes). y.passes) c.requires.fits.sizes ∙ one)
             c.args.pass.now.keeping.pass.pass
             (seen_of c.load_end-first.new.pass.seat c.load_end-first.new.pass.keeping.lone c.load_end-first.new.pass.run) refl,
+        refl,
       );
       empty = λ j lo lt. subst (λ (q : QueuePass). IsEmpty (slot q j)) (sym is) (c.requires.empty j lo lt);
       purse = refl;
@@ -91,6 +92,7 @@ returns-then-put_turn-clause-says c = λ v has. let v0 = view c.args.pass.now.se
     (c.again.invariant.purse ∙ c.load_end-first.ensures.purse) has) c.if-put_turn.true)) c.again.invariant.few
     (λ one up. let a = c.again.invariant.alone one (up_made v0 v1 c.load_end-first.ensures.ends.made refl up) in
     (c.put_turn.ensures.alone one a.0 a.1).1)
+    (λ one up. (c.again.invariant.alone one (up_made v0 v1 c.load_end-first.ensures.ends.made refl up)).2)
 
 pub returns-then-put_turn-clause-leaves : goal.returns-then-put_turn-clause-leaves
 returns-then-put_turn-clause-leaves c = c.put_turn.ensures.published c.if-put_turn.true

@@ -15,7 +15,8 @@ invariant-again l = record {
   same : IsSame l.initial.pass.seat l.pass.seat;
   first : IsHeadWord l.first;
   alone : l.pool.layout.passes ≡ 1 → (known l.initial.pass.seat).own.behind ≡ false
-      → ((known l.pass.seat).own.behind ≡ false) × (l.first ≡ word_in (view l.pass.seat) (head_place l.pool.layout 1));
+      → ((known l.pass.seat).own.behind ≡ false) × (l.first ≡ word_in (view l.pass.seat) (head_place l.pool.layout 1))
+      × (l.turns ≡ 0);
   empty : EmptyFrom 0 (known l.pass.seat);
   purse : l.pass.purse ≡ l.initial.pass.purse;
 }

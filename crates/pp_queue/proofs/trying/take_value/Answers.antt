@@ -27,9 +27,12 @@ again-init c = let v0 = view c.args.pass.now.seat in let v1 = view c.begin-first
       same = record { table_is = refl; number = refl; sizes = refl };
       first = head_word_of _ c.begin-first.result c.args.pass.now.keeping.pass.within b.end;
       up = λ e. e;
-      alone = λ one _. load_left v0 v1 b.made refl (ap (λ (y : Sizes). y.passes) c.requires.fits.sizes ∙ one)
-          c.args.pass.now.keeping.pass.pass
-          (seen_of c.begin-first.new.pass.seat c.begin-first.new.pass.keeping.lone c.begin-first.new.pass.run) refl;
+      alone = λ one _. (
+        refl,
+        load_left v0 v1 b.made refl (ap (λ (y : Sizes). y.passes) c.requires.fits.sizes ∙ one)
+            c.args.pass.now.keeping.pass.pass
+            (seen_of c.begin-first.new.pass.seat c.begin-first.new.pass.keeping.lone c.begin-first.new.pass.run) refl,
+      );
       empty = λ j lo lt. subst (λ (q : QueuePass). IsEmpty (slot q j)) (sym is) (c.requires.empty j lo lt);
       rest = rest_same_lists v0.known v1.known c.args.pass.now.purse c.begin-first.new.pass.purse (ap
           (λ (q : QueuePass). q.scan) is)
@@ -61,7 +64,7 @@ again-preserved c = let v1 = view c.begin-first.new.pass.seat in let w = view c.
       first = head_word_of _ c.load_end-first.result c.take_turn.new.pass.keeping.pass.within ends.end;
       up = up_on v1.known w.known y.known c.again.invariant.up (up_on w.known x.known y.known c.take_turn.ensures.up
           (up_made x y ends.made refl));
-      alone = λ one up. absurd (c.in-Again.ensures.alone one (c.again.invariant.up up) (c.again.invariant.alone one up));
+      alone = λ one up. absurd (c.in-Again.ensures.alone one (c.again.invariant.up up) (c.again.invariant.alone one up).1);
       empty = λ j lo lt. subst (λ (q : QueuePass). IsEmpty (slot q j)) (sym is) (c.take_turn.ensures.empty j lo lt);
       rest = rest_goes x y c.take_turn.new.pass.purse c.load_end-first.new.pass.purse goes c.load_end-first.ensures.purse
           c.take_turn.ensures.rest;
@@ -78,6 +81,7 @@ returns-in-Empty-clause-says c = let v0 = view c.args.pass.now.seat in let v1 = 
     took_none passes c.args.races n turn.0 v0 w x
     (began_on v0 v1 w (began _ _ v0 v1 c.begin-first.ensures.begins) c.again.invariant.went)
     c.in-Empty.ensures.turned c.again.invariant.few ran.0 (ran.1.0 ∙ sym c.again.invariant.went.start) ran.1.1
+    (λ one up. (c.again.invariant.alone one (up_made v0 v1 c.begin-first.ensures.begins.made refl up)).0)
 
 pub returns-in-Took-clause-says : goal.returns-in-Took-clause-says
 returns-in-Took-clause-says c = let v0 = view c.args.pass.now.seat in let v1 = view c.begin-first.new.pass.seat in
@@ -94,6 +98,7 @@ returns-in-Took-clause-says c = let v0 = view c.args.pass.now.seat in let v1 = v
       few = c.again.invariant.few;
       ran = all.0;
       some = all.1.1;
+      alone = λ one up. (c.again.invariant.alone one (up_made v0 v1 c.begin-first.ensures.begins.made refl up)).0;
     }
 
 pub returns-then-spent-clause-says : goal.returns-then-spent-clause-says
@@ -114,7 +119,7 @@ returns-then-spent-clause-says c = let v0 = view c.args.pass.now.seat in let v1 
       ran = all.0;
       some = all.1;
       others = λ one up. let now = up_made v0 v1 c.begin-first.ensures.begins.made refl up in
-          c.in-Again.ensures.alone one (c.again.invariant.up now) (c.again.invariant.alone one now);
+          c.in-Again.ensures.alone one (c.again.invariant.up now) (c.again.invariant.alone one now).1;
     }
 
 pub returns-in-Empty-clause-up : goal.returns-in-Empty-clause-up

@@ -17,7 +17,7 @@ invariant-again l = record {
   first : IsHeadWord l.first;
   up : StaysUp (known l.initial.pass.seat) (known l.pass.seat);
   alone : l.pool.layout.passes ≡ 1 → (known l.initial.pass.seat).own.behind ≡ false
-      → l.first ≡ word_in (view l.pass.seat) (head_place l.pool.layout 0);
+      → (l.turns ≡ 0) × (l.first ≡ word_in (view l.pass.seat) (head_place l.pool.layout 0));
   empty : EmptyFrom 0 (known l.pass.seat);
   rest : IsAtRest (known l.pass.seat) l.pass.purse;
   purse : SameFree l.initial.pass.purse l.pass.purse;

@@ -12,6 +12,7 @@ use Rattle.pp_queue.proofs.Idling.{idles_both}
 use Rattle.pp_queue.proofs.Turning.{rest_same_lists}
 use Rattle.pp_queue.proofs.Called.{walk_zero, empty_of, own_of, same_then, put_full, put_done, put_lost}
 use Rattle.pp_queue.proofs.queue.Queue.put.Goals as goal
+use Rattle.pp_queue.proofs.Finding.{up_seat}
 
 pub returns-in_default-clause-ready : goal.returns-in_default-clause-ready
 returns-in_default-clause-ready c = let z = c.args.self.now.pool.layout in let pass = c.args.pass.now in
@@ -25,6 +26,7 @@ returns-in_default-clause-ready c = let z = c.args.self.now.pool.layout in let p
       rest = t.rest;
       stands = (put_full z c.args.races c.args.value v w pass.purse last.purse pass.share c.requires.races t.idles out four
           (own_of last.seat last.keeping.lone last.run) ready.stands).stands;
+      up = λ one. t.up (ready.up one);
     }
 
 pub returns-in_default-clause-answered : goal.returns-in_default-clause-answered
@@ -102,7 +104,8 @@ returns-in-Ok-clause-ready c = let z = c.args.self.now.pool.layout in let pass =
       );
       rest = e.rest;
       stands = (put_done z c.args.races c.args.value v0 v2 v3 w pass.purse p4.purse p5.purse p4.share pre idles tidy four own
-          ready.stands first kept says).stands;
+          ready.stands first kept (λ one. f.up (t.up (ready.up one))) says).stands;
+      up = λ one. e.up (up_seat p3.seat p4.seat c.published.ensures.seat (says.up one (f.up (t.up (ready.up one)))));
     }
 
 pub returns-in-Ok-clause-answered : goal.returns-in-Ok-clause-answered
@@ -134,7 +137,7 @@ returns-in-Ok-clause-answered c = let z = c.args.self.now.pool.layout in let pas
     (queue_view w p5.purse.free.items n) (put_answer (Ok tt))) (sym (share5 ∙ (share4 ∙ (share2 ∙ share1))))
     (put_done z c.args.races c.args.value v0 v2 v3 w pass.purse p4.purse p5.purse pass.share pre idles
     (subst (λ (n : ℕ). Tidies z n v3 w p4.purse p5.purse) (share4
-    ∙ (share2 ∙ share1)) tidy) four own ready.stands first kept says)
+    ∙ (share2 ∙ share1)) tidy) four own ready.stands first kept (λ one. f.up (t.up (ready.up one))) says)
 
 pub returns-in-Err-clause-ready : goal.returns-in-Err-clause-ready
 returns-in-Err-clause-ready c = let z = c.args.self.now.pool.layout in let pass = c.args.pass.now in
@@ -175,8 +178,9 @@ returns-in-Err-clause-ready c = let z = c.args.self.now.pool.layout in let pass 
       );
       rest = e.rest;
       stands = (put_lost z c.args.races c.args.value v0 v2 v3 w pass.purse p4.purse p5.purse p4.share pre idles tidy four own
-          ready.stands first kept c.in-Err.turns
+          ready.stands first kept (λ one. f.up (t.up (ready.up one))) c.in-Err.turns
           (subst (λ (n : ℕ). GaveUp z.passes n c.args.races v2 v3) c.in-Err.turns-is says)).stands;
+      up = λ one. absurd (says.others one (f.up (t.up (ready.up one))));
     }
 
 pub returns-in-Err-clause-answered : goal.returns-in-Err-clause-answered
@@ -210,4 +214,4 @@ returns-in-Err-clause-answered c = let z = c.args.self.now.pool.layout in let pa
     ∙ (share4 ∙ (share2 ∙ share1))))
     (put_lost z c.args.races c.args.value v0 v2 v3 w pass.purse p4.purse p5.purse pass.share pre idles
     (subst (λ (n : ℕ). Tidies z n v3 w p4.purse p5.purse) (share4
-    ∙ (share2 ∙ share1)) tidy) four own ready.stands first kept c.in-Err.field-0.turns says)
+    ∙ (share2 ∙ share1)) tidy) four own ready.stands first kept (λ one. f.up (t.up (ready.up one))) c.in-Err.field-0.turns says)

@@ -1,5 +1,5 @@
 use Rattle.std.proofs.Common.{◌≡◌, ℕ, sym, ◌∙◌}
-use Rattle.pp_queue.proofs.Starting.{starts_standing, starts_new}
+use Rattle.pp_queue.proofs.Starting.{starts_standing, starts_new, starts_up}
 use Rattle.pp_queue.proofs.queue.Queue.start.Goals as goal
 
 pub returns-clause-ready : goal.returns-clause-ready
@@ -8,6 +8,7 @@ returns-clause-ready c = λ k p at. let n = c.in_ok-pool.ensures.passes k p at i
   idle = (n.unnamed, n.purse.resting, n.purse.taken);
   rest = n.rests;
   stands = starts_standing p.seat _ k n.knows;
+  up = λ _. starts_up p.seat _ k n.knows;
 }
 
 pub returns-clause-fresh : goal.returns-clause-fresh

@@ -31,7 +31,8 @@ returns-clause-ready c = let a = c.take_value-answer.ensures in let f = c.finish
       rest = f.rest;
       stands = (take_answered z c.args.races v0 v1 w p0 pass.purse last.purse pass.share c.requires.races f.idles f.tidies
           a.purse four
-          (own_of last.seat last.keeping.lone last.run) ready.stands c.take_value-answer.result a.says).stands;
+          (own_of last.seat last.keeping.lone last.run) ready.stands ready.up c.take_value-answer.result a.says).stands;
+      up = λ one. f.up (a.up (ready.up one));
     }
 
 pub returns-clause-answered : goal.returns-clause-answered
@@ -50,4 +51,4 @@ returns-clause-answered c = let a = c.take_value-answer.ensures in let f = c.fin
     (take_answer c.take_value-answer.result)) (sym (share2 ∙ share1))
     (take_answered z c.args.races v0 v1 w p0 pass.purse last.purse share c.requires.races f.idles
     (subst (λ (n : ℕ). Tidies z n v1 w pass.purse last.purse) share1 f.tidies) a.purse four
-    (own_of last.seat last.keeping.lone last.run) ready.stands c.take_value-answer.result a.says)
+    (own_of last.seat last.keeping.lone last.run) ready.stands ready.up c.take_value-answer.result a.says)
