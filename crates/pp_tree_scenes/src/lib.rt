@@ -2,11 +2,17 @@
 #![tactic(auto)]
 
 #[cfg(test)]
+mod hands;
+#[cfg(test)]
 mod helpers;
+#[cfg(test)]
+mod parents;
 #[cfg(test)]
 mod paths;
 #[cfg(test)]
 mod readers;
+#[cfg(test)]
+mod seeks;
 #[cfg(test)]
 mod smallest;
 #[cfg(test)]

@@ -1,16 +1,11 @@
 //! A remove that stops anywhere, and what it keeps of another caller's records.
 
 use crate::staging::{
-    RACES, add_all, begin, close_two, end, go_on, open_two, reclaim_so_many, remove_all,
+    ALL, RACES, add_all, begin, close_two, end, go_on, open_two, reclaim_so_many, remove_all,
 };
 use pp_model::{Call, Reply};
 use std::alloc::Global;
 use std::process::Abort;
-
-const ALL: [u32; 35] = [
-    6, 7, 8, 9, 10, 11, 12, 13, 14, 15, 16, 17, 18, 19, 20, 21, 22, 23, 24, 25, 26, 27, 28, 29, 30,
-    31, 32, 33, 34, 35, 36, 37, 38, 39, 40,
-];
 
 /// A remove of 30 stops after so many turns. Another caller removes the other keys and reclaims. These records stay retired. When
 /// the remove goes on, it makes so many turns before its last one, of which so many are lost.
