@@ -89,7 +89,7 @@ after_next log p c at =
     ∙ ap (λ (x : Change). map_after (after log p) x.call) (get_or_from_slice_get log p c c at)
 
 -- a change on another key
-kept_after : (log : List Change) (key p : ℕ) (c : Change) → slice_get log p ≡ Some c → (key_of c.call ≡ key → ⊥)
+pub kept_after : (log : List Change) (key p : ℕ) (c : Change) → slice_get log p ≡ Some c → (key_of c.call ≡ key → ⊥)
     → find (after log (p + 1)) key ≡ find (after log p) key
 kept_after log key p c at other =
     ap (λ m. find m key) (after_next log p c at) ∙ find_else (after log p) c.call key (λ e. other (sym e))

@@ -6,7 +6,7 @@ ghost use Rattle.pp_check.specs.declared.Verdict.TheVariants.{Yes};
 ghost use Rattle.pp_check.specs.Verdicts.{IsVerdict, IsLegal};
 
 mod history;
-mod index;
+pub mod index;
 mod judging;
 pub mod laws;
 mod placing;
