@@ -29,7 +29,8 @@ use Rattle.pp_rule.specs.Orders.{guard_step, unguard_step, retire_step}
 use Rattle.pp_rule.specs.States.{PoolState}
 use Rattle.pp_rule.specs.Rule.{number_of}
 use Rattle.pp_rule.specs.Ties.{Holds}
-use Rattle.pp_rule.specs.Steps.{IsAlone, MadeQuietStep, with_frontier, IsUnused, Invalidated, invalidated, without_link, with_chain, retiring, detaching}
+use Rattle.pp_rule.specs.Steps.{IsAlone, MadeQuietStep, with_frontier, IsUnused, Invalidated, invalidated, without_link}
+use Rattle.pp_rule.specs.Steps.{with_chain, retiring, detaching}
 use Rattle.pp_rule.specs.Laws.{KeptAlike, Freezes, KeptInvalid, Chained, MayDetach, KeptDetached}
 use Rattle.pp_rule.specs.Detach.{Exchanged}
 use Rattle.pp_rule.proofs.Detaching.{detaches_chain}

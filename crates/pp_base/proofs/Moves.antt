@@ -13,7 +13,8 @@ use Rattle.pp_rule.specs.Orders.{announce_step, clear_step, write_step}
 use Rattle.pp_rule.specs.Views.{naming, slot}
 use Rattle.pp_rule.specs.States.{PoolState}
 use Rattle.pp_rule.specs.Ties.{Holds}
-use Rattle.pp_rule.specs.Steps.{IsAlone, MadeQuietStep, with_walk, clearing, with_private, wrote, IsSource, LoadedLink, ReadField, Confirmed}
+use Rattle.pp_rule.specs.Steps.{IsAlone, MadeQuietStep, with_walk, clearing, with_private, wrote, IsSource, LoadedLink, ReadField}
+use Rattle.pp_rule.specs.Steps.{Confirmed}
 use Rattle.pp_rule.specs.Laws.{KeptAlike, KeptCleared, Freezes}
 use Rattle.pp_rule.proofs.WalkWords.{announces, clears_word, reads_field}
 use Rattle.pp_rule.proofs.Confirming.{loads_head, loads_held, confirms}

@@ -1,5 +1,6 @@
 -- What the lines of a text say, one after the other, and the certificate that grows from them.
-use Rattle.std.proofs.Common.{◌≡◌, ℕ, zero, suc, ◌+◌, ◌<◌, ◌≤◌, cond, true, false, List, [], ◌∷◌, ◌++◌, length, map, drop, get_or, set, replicate, refl}
+use Rattle.std.proofs.Common.{◌≡◌, ℕ, zero, suc, ◌+◌, ◌<◌, ◌≤◌, cond, true, false, List, [], ◌∷◌, ◌++◌, length, map, drop, get_or}
+use Rattle.std.proofs.Common.{set, replicate, refl}
 use Rattle.std.proofs.Common.{Option, Some, None, ap, ◌∙◌, sym, ⊎_elim, arith, subst, option_and_then}
 use Rattle.std.specs.Prelude.{slice_get}
 use Rattle.std.specs.List.{between, cons_option}

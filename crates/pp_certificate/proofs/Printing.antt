@@ -34,7 +34,8 @@ use Rattle.pp_certificate.specs.Lines.{count_in, key_in, value_in, with_rest, ca
 use Rattle.pp_certificate.specs.Lines.{change_with, said_to, said_with, entry_of, line_entry}
 use Rattle.pp_certificate.specs.Stages.{next_stage, unless_after, first_bad_from, first_bad}
 use Rattle.pp_certificate.specs.Certificates.{entries_in, log_in, list_in, log_of, list_of}
-use Rattle.pp_certificate.specs.Printed.{call_text, change_line, said_line, said_text, certificate_text, KeyFits, ValueFits, CallFits, ReplyFits}
+use Rattle.pp_certificate.specs.Printed.{call_text, change_line, said_line, said_text, certificate_text, KeyFits, ValueFits}
+use Rattle.pp_certificate.specs.Printed.{CallFits, ReplyFits}
 use Rattle.pp_certificate.specs.Printed.{ChangeFits, PlacedFits, Fit, TextsAreCertificates}
 use Rattle.pp_certificate.proofs.Growing.{first_bad_from-cons, length-upto, get_or-upto}
 

@@ -4,7 +4,8 @@ use Rattle.std.proofs.Math.ListN.{set, get_or}
 use Rattle.std.proofs.lemmas.List.{get_or-set_same, get_or-set_other}
 use Rattle.pp_link.specs.declared.layout.Sizes.{Sizes}
 use Rattle.pp_link.specs.Places.{IsNumber, total, walk_place, frontier_place, shelf_place, head_place, cell_place}
-use Rattle.pp_link.specs.Words.{walk_word, frontier_word, shelf_word, head_word, cell_word, WalkStored, FrontierStored, ShelfStored, HeadStored, CellStored}
+use Rattle.pp_link.specs.Words.{walk_word, frontier_word, shelf_word, head_word, cell_word, WalkStored, FrontierStored}
+use Rattle.pp_link.specs.Words.{ShelfStored, HeadStored, CellStored}
 
 module _ (z : Sizes) (words : List ℕ) (value : ℕ) (size : length words ≡ total z) where
   -- a reading at another place

@@ -1,5 +1,6 @@
 -- The turn in which a remove or a cut tries to detach its record, and is answered.
-use Rattle.std.proofs.Common.{◌≡◌, ◌≢◌, ◌⊎◌, ℕ, zero, suc, ◌+◌, ◌*◌, ◌<◌, ◌≤◌, Bool, true, false, cond, List, [], ◌∷◌, ◌++◌, map, length, refl, sym, ap, ◌∙◌}
+use Rattle.std.proofs.Common.{◌≡◌, ◌≢◌, ◌⊎◌, ℕ, zero, suc, ◌+◌, ◌*◌, ◌<◌, ◌≤◌, Bool, true, false, cond, List, [], ◌∷◌, ◌++◌, map}
+use Rattle.std.proofs.Common.{length, refl, sym, ap, ◌∙◌}
 use Rattle.std.proofs.Common.{subst, inl, inr, ⊎_elim, Option, Some, None, arith, length-append, lt-ltb, append_assoc, append-nil}
 use Rattle.std.specs.Prelude.{nat_lt}
 use Rattle.std.proofs.Math.Bool.{false≢true}
@@ -48,7 +49,8 @@ use Rattle.pp_turns.specs.Causes.{TookBy}
 use Rattle.pp_turns.proofs.Aside.{aside_one, counts_effected}
 use Rattle.pp_turns.proofs.Detached.{was_detached}
 use Rattle.pp_turns.proofs.Placing.{unplaced_made, unplaced_on, struck_later}
-use Rattle.pp_turns.proofs.Stretches.{since_on, saw_last, steps_named, steps_both, stretch_both, stepped_steps, steps_none, own_before, ran_both, ran_as}
+use Rattle.pp_turns.proofs.Stretches.{since_on, saw_last, steps_named, steps_both, stretch_both, stepped_steps, steps_none}
+use Rattle.pp_turns.proofs.Stretches.{own_before, ran_both, ran_as}
 use Rattle.pp_walk.specs.Effects.{Tried, DetachesSo}
 use Rattle.pp_list.specs.declared.going.ListGoing.{ListGoing}
 use Rattle.pp_list.specs.declared.going.Marked.{Marked}

@@ -23,7 +23,8 @@ use Rattle.pp_shelf.specs.Shelves.{MovesFree}
 use Rattle.pp_purse.specs.Steps.{PurseSteps}
 use Rattle.pp_purse.specs.Purses.{KeepsTaken, ReclaimsMany, TidiesPurse, FindsFree, RanOut}
 use Rattle.pp_purse.proofs.Reclaiming.{turn_long, reclaim_is}
-use Rattle.pp_purse.proofs.Stretches.{none_made, purse_both, since_made, since_named, since_both, owned_made, flushed_purse, swept_purse, shelves_purse}
+use Rattle.pp_purse.proofs.Stretches.{none_made, purse_both, since_made, since_named, since_both, owned_made, flushed_purse}
+use Rattle.pp_purse.proofs.Stretches.{swept_purse, shelves_purse}
 
 module _ {E A W : Type 0} (sides : ℕ) (z : Sizes) (many : ℕ) (s s' : Seat Unit (SeatView E A W)) (p p' : Purse)
     (r : Reclaims sides z many s s' p p') where

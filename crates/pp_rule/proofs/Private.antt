@@ -23,7 +23,8 @@ use Rattle.pp_rule.specs.Steps.{entry, IsAlone, MadeQuietStep, with_private, wro
 use Rattle.pp_rule.specs.Laws.{KeptAlike}
 use Rattle.pp_rule.proofs.Slots.{same_own}
 use Rattle.pp_rule.proofs.Stepping.{after_step, allows, cell_aside}
-use Rattle.pp_rule.proofs.Frames.{SameUsed, held_after, reads_after, links_after, numbers_after, privates_after, hazards_after, chains_after}
+use Rattle.pp_rule.proofs.Frames.{SameUsed, held_after, reads_after, links_after, numbers_after, privates_after, hazards_after}
+use Rattle.pp_rule.proofs.Frames.{chains_after}
 use Rattle.pp_rule.proofs.Frames.{shelves_after, Unscanned, scans_after}
 use Rattle.pp_rule.proofs.Keeping.{shelf_scope, hand_scope, was_unscanned, looks_after}
 

@@ -6,7 +6,8 @@ use Rattle.pp_link.specs.Places.{IsNumber, head_place, cell_place}
 use Rattle.pp_link.specs.Words.{frontier_word, head_word, cell_word}
 use Rattle.pp_rule.specs.Lists.{IsIn}
 use Rattle.pp_rule.specs.Views.{PassState, slot}
-use Rattle.pp_rule.specs.States.{RecordState, attached, in_hand, retired, owned, shelved, IsUsed, IsStateIn, PoolState, IsSmall, Leads, Held}
+use Rattle.pp_rule.specs.States.{RecordState, attached, in_hand, retired, owned, shelved, IsUsed, IsStateIn, PoolState, IsSmall}
+use Rattle.pp_rule.specs.States.{Leads, Held}
 use Rattle.pp_rule.specs.Rule.{Numbers, Links, Scans, Base}
 use Rattle.pp_rule.specs.Steps.{IsSource}
 

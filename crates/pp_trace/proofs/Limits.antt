@@ -20,7 +20,8 @@ use Rattle.pp_trace.specs.declared.parsing.Word.{Word}
 use Rattle.pp_trace.specs.declared.parsing.Word.TheVariants as word
 use Rattle.pp_trace.specs.Lines.{is_line_feed, lines_of, fields_of, number_of}
 use Rattle.pp_trace.specs.Grammar.{greatest_key, number_below, key_in, value_in, word_of, key_of_fields, pair_of, pair_of_fields}
-use Rattle.pp_trace.specs.Grammar.{call_with_key, call_with_pair, call_of_word, call_of, asked_by, reading_by, reading, readings, call_by, lines}
+use Rattle.pp_trace.specs.Grammar.{call_with_key, call_with_pair, call_of_word, call_of, asked_by, reading_by, reading, readings}
+use Rattle.pp_trace.specs.Grammar.{call_by, lines}
 use Rattle.pp_trace.specs.Grammar.{is_skipped, names_second, form_of, without_name}
 use Rattle.pp_trace.specs.TraceLists.{KeysFit}
 use Rattle.pp_trace.proofs.Cuts.{first_line}

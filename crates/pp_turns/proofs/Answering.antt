@@ -16,7 +16,8 @@ use Rattle.pp_model.specs.History.{after as map_after}
 use Rattle.pp_model.specs.MapCalls.{Grew, Strikes, SameCall, MakesTurn, Counted, AnswersCall, PlacesReply, LeavesPurse, FullPurse}
 use Rattle.pp_model.specs.Pass.{PassView, GoingView, MapSizes, Meaning, seen_first, seen_last, steps_since, start_of}
 use Rattle.pp_rule.specs.declared.views.SeatView.{SeatView}
-use Rattle.pp_rule.specs.Causes.{PoolWords, CauseWords, pool_meaning, PoolCause, WasDetached, FoundNone, lost_from, early_from, after_effect}
+use Rattle.pp_rule.specs.Causes.{PoolWords, CauseWords, pool_meaning, PoolCause, WasDetached, FoundNone, lost_from, early_from}
+use Rattle.pp_rule.specs.Causes.{after_effect}
 use Rattle.pp_rule.specs.Lists.{IsIn}
 use Rattle.pp_rule.proofs.Put.{in_first}
 use Rattle.pp_rule.specs.Orders.{log_of, made_by, placed_by, entries_of}

@@ -18,7 +18,8 @@ use Rattle.pp_rule.specs.Steps.{MadeStep}
 use Rattle.pp_rule.proofs.Put.{in_left}
 use Rattle.pp_base.specs.Named.{NamedStep, name_of, Made}
 use Rattle.pp_calls.specs.Steps.{Went, Stepped, HasOwn, StandsThen, TurnMade}
-use Rattle.pp_calls.proofs.Growing.{stepped_none, stepped_one, stepped_both, stepped_made, named_made, went_on, went_stepped, last_of, last_on}
+use Rattle.pp_calls.proofs.Growing.{stepped_none, stepped_one, stepped_both, stepped_made, named_made, went_on, went_stepped}
+use Rattle.pp_calls.proofs.Growing.{last_of, last_on}
 use Rattle.pp_calls.proofs.Remaining.{stands_made}
 use Rattle.pp_shelf.specs.Runs.{steps_made}
 use Rattle.pp_turns.specs.Tallies.{Tally, losing, counting, tally}

@@ -1,6 +1,7 @@
 -- How far the links of the oldest chain are looked through.
 use Rattle.std.proofs.Common.{◌≡◌, ⊎_elim, ℕ, zero, suc, ◌+◌, ◌-◌, ◌*◌, ◌/◌, ◌%◌, ◌<◌, ◌≤◌, Bool, true, false, cond, eqb, ◌&&◌}
-use Rattle.std.proofs.Common.{List, [], ◌∷◌, ◌++◌, map, length, take, drop, get_or, set, bit_or, refl, sym, ap, ◌∙◌, subst, arith, append_assoc, eq-eqb}
+use Rattle.std.proofs.Common.{List, [], ◌∷◌, ◌++◌, map, length, take, drop, get_or, set, bit_or, refl, sym, ap, ◌∙◌, subst, arith}
+use Rattle.std.proofs.Common.{append_assoc, eq-eqb}
 use Rattle.std.proofs.lemmas.List.{length-append, length-map, map-append, set-set}
 use Rattle.std.proofs.Math.Seq.{take-suc}
 use Rattle.std.proofs.Math.ListN.{get_or-append}

@@ -39,7 +39,8 @@ use Rattle.pp_walk.specs.Trod.{Quiet}
 use Rattle.pp_walk.specs.Turns.{Answers}
 use Rattle.pp_walk.specs.Parts.{Holds, SameOf, CameHere, Stopped, EndsAt, GathersAt, LosesAt}
 use Rattle.pp_walk.proofs.Clearing.{cleared_names}
-use Rattle.pp_walk.proofs.Counting.{lose_one, lose_more, lose_then, quiet_one, quiet_both, quiet_idle, same_through, rest_through, same_self, rest_self}
+use Rattle.pp_walk.proofs.Counting.{lose_one, lose_more, lose_then, quiet_one, quiet_both, quiet_idle, same_through, rest_through}
+use Rattle.pp_walk.proofs.Counting.{same_self, rest_self}
 use Rattle.pp_walk.proofs.Standing.{holds_learnt, anchors_at, begins_again, chains_held, gathers_at, gathers_key, anchor_on}
 
 -- what is held stays in the same words

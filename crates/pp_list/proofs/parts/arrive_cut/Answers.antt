@@ -8,7 +8,8 @@ use Rattle.pp_calls.proofs.Purses.{same_share}
 use Rattle.pp_model.specs.Calls.{key_of}
 use Rattle.pp_model.specs.declared.Turned.TheVariants.{On}
 use Rattle.pp_walk.specs.Roles.{found_in, is_look}
-use Rattle.pp_list.proofs.Arriving.{idles_none, arrived_ends, found_absent, found_value, cut_absent, cut_other, cut_opens, cut_takes, comes_to_mark}
+use Rattle.pp_list.proofs.Arriving.{idles_none, arrived_ends, found_absent, found_value, cut_absent, cut_other, cut_opens}
+use Rattle.pp_list.proofs.Arriving.{cut_takes, comes_to_mark}
 use Rattle.pp_list.proofs.Arriving.{ends_at_key, over_same, ends_as, not_so, so}
 use Rattle.pp_list.specs.declared.going.Next.TheVariants.{Marks}
 use Rattle.pp_list.specs.Turned.{Part, HasArrived}

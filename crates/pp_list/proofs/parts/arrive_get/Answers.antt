@@ -4,7 +4,8 @@ use Rattle.pp_model.specs.declared.Reply.TheVariants.{Value, Absent}
 use Rattle.pp_base.specs.Passes.{known, view}
 use Rattle.pp_calls.proofs.Purses.{same_share}
 use Rattle.pp_walk.specs.Roles.{found_in}
-use Rattle.pp_list.proofs.Arriving.{idles_none, arrived_ends, found_absent, found_marked, found_value, get_reply, get_value, over_same, ends_as}
+use Rattle.pp_list.proofs.Arriving.{idles_none, arrived_ends, found_absent, found_marked, found_value, get_reply, get_value}
+use Rattle.pp_list.proofs.Arriving.{over_same, ends_as}
 use Rattle.pp_list.proofs.Arriving.{not_so, so}
 use Rattle.pp_list.proofs.parts.arrive_get.Goals as goal
 

@@ -4,7 +4,8 @@ use Rattle.pp_model.specs.declared.Reply.TheVariants.{Held}
 use Rattle.pp_base.specs.Passes.{known, view}
 use Rattle.pp_calls.proofs.Purses.{same_share}
 use Rattle.pp_walk.specs.Roles.{found_in}
-use Rattle.pp_list.proofs.Arriving.{arrived_ends, found_value, insert_held, insert_looks, comes_to_detach, comes_to_publish, over_same, ends_as}
+use Rattle.pp_list.proofs.Arriving.{arrived_ends, found_value, insert_held, insert_looks, comes_to_detach, comes_to_publish}
+use Rattle.pp_list.proofs.Arriving.{over_same, ends_as}
 use Rattle.pp_list.proofs.parts.arrive_insert.Goals as goal
 
 pub returns-then-found-clause-part : goal.returns-then-found-clause-part

@@ -4,7 +4,8 @@ use Rattle.pp_rule.specs.Views.{slot, value_of}
 use Rattle.pp_base.specs.Passes.{known, view}
 use Rattle.pp_model.specs.Calls.{key_of}
 use Rattle.pp_walk.specs.Roles.{found_in, is_look}
-use Rattle.pp_list.proofs.Arriving.{idles_none, arrived_ends, found_absent, found_value, remove_absent, remove_opens, remove_takes, comes_to_mark}
+use Rattle.pp_list.proofs.Arriving.{idles_none, arrived_ends, found_absent, found_value, remove_absent, remove_opens}
+use Rattle.pp_list.proofs.Arriving.{remove_takes, comes_to_mark}
 use Rattle.pp_list.proofs.Arriving.{ends_at_key, over_same, not_so, so}
 use Rattle.pp_list.proofs.parts.arrive_remove.Goals as goal
 

@@ -13,7 +13,8 @@ use Rattle.pp_walk.specs.Effects.{FillsAt, PublishesSo}
 use Rattle.pp_list.specs.Answers.{Ends}
 use Rattle.pp_list.specs.Turned.{HasLost, Part, HasRecord}
 use Rattle.pp_list.proofs.Arriving.{over_same, ends_as}
-use Rattle.pp_list.proofs.Publishing.{call_by_pair, publish_as, sames, rest_aside, is_published, rests_now, put_ends, put_made, put_lost, put_again, put_long}
+use Rattle.pp_list.proofs.Publishing.{call_by_pair, publish_as, sames, rest_aside, is_published, rests_now, put_ends, put_made}
+use Rattle.pp_list.proofs.Publishing.{put_lost, put_again, put_long}
 use Rattle.pp_list.proofs.Treading.{lost_as}
 use Rattle.pp_list.proofs.turns.put_in.Goals as goal
 
