@@ -1,3 +1,4 @@
 pub mod Entries
 pub mod Listed
 pub mod Callers
+pub mod Texts

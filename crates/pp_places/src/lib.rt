@@ -7,12 +7,15 @@ ghost use Rattle.pp_places.specs.Places.{IsPlaced};
 
 mod log;
 mod placing;
+mod text;
+mod writing;
 
 use log::log_of;
 use placing::lists_of;
 use pp_check::index::index_of;
 use pp_model::{Answer, Call, Change, NoMemory, Placed};
 use std::alloc::Global;
+pub use writing::certificate_of;
 
 /// A log of changes, and for each caller the list of its placed calls.
 #[derive(Drop)]
