@@ -2,3 +2,4 @@ pub mod Entries
 pub mod Listed
 pub mod Callers
 pub mod Texts
+pub mod Certified

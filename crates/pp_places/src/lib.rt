@@ -5,6 +5,7 @@ ghost use Rattle.std.specs.Prelude.{◌≡◌, ◌≤◌, map, length, IfOk};
 ghost use Rattle.pp_model.specs.Pass.{RunView};
 ghost use Rattle.pp_places.specs.Places.{IsPlaced};
 
+pub mod laws;
 mod log;
 mod placing;
 mod text;
