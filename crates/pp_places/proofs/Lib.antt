@@ -1,3 +1,5 @@
 pub mod Entries
 pub mod Listed
 pub mod Callers
+pub mod Texts
+pub mod Certified

@@ -5,14 +5,18 @@ ghost use Rattle.std.specs.Prelude.{◌≡◌, ◌≤◌, map, length, IfOk};
 ghost use Rattle.pp_model.specs.Pass.{RunView};
 ghost use Rattle.pp_places.specs.Places.{IsPlaced};
 
+pub mod laws;
 mod log;
 mod placing;
+mod text;
+mod writing;
 
 use log::log_of;
 use placing::lists_of;
 use pp_check::index::index_of;
 use pp_model::{Answer, Call, Change, NoMemory, Placed};
 use std::alloc::Global;
+pub use writing::certificate_of;
 
 /// A log of changes, and for each caller the list of its placed calls.
 #[derive(Drop)]

@@ -1,0 +1,20 @@
+use Rattle.std.proofs.Common.{arith, ◌≡◌, ◌++◌, ◌≤◌, length, take, ap, sym, ◌∙◌, append-nil}
+use Rattle.std.specs.List.{flat_map}
+use Rattle.std.proofs.lemmas.List.{take_all}
+use Rattle.pp_certificate.specs.Printed.{said_line}
+use Rattle.pp_places.proofs.Texts.{pushed}
+use Rattle.pp_places.proofs.writing.push_list.Goals as goal
+
+pub loop-at-init : goal.loop-at-init
+loop-at-init c = sym (append-nil c.args.text.now.items)
+
+pub loop-at-preserved : goal.loop-at-preserved
+loop-at-preserved c =
+    pushed (said_line c.args.caller) c.args.list.now c.loop-at.at _ c.args.text.now.items c.loop-at.text.items c.push_text.new.text.items
+    c.loop-at-test.true c.loop-at.invariant
+    (c.in_ok-push_text.ensures ∙ ap (λ l. c.loop-at.text.items ++ l) (c.as_str.ensures.value ∙ c.of_said-line.ensures))
+
+pub returns : goal.returns
+returns c =
+    c.loop-at.invariant ∙ ap (λ l. c.args.text.now.items ++ flat_map (said_line c.args.caller) l)
+    (take_all c.loop-at.at c.args.list.now (omega (arith, c.loop-at-test.false)))
