@@ -3,3 +3,4 @@ pub mod Listed
 pub mod Callers
 pub mod Texts
 pub mod Certified
+pub mod Runs
