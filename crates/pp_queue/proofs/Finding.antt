@@ -2,19 +2,20 @@
 use Rattle.std.proofs.Common.{◌≡◌, ◌≢◌, ℕ, zero, suc, length, ◌+◌, ◌*◌, ◌<◌, ◌≤◌, Bool, true, false, List, [], get_or, set, refl}
 use Rattle.std.proofs.Common.{sym, ap, ◌∙◌, subst, arith}
 use Rattle.std.proofs.Math.Bool.{false≢true}
+use Rattle.std.proofs.Common.{◌≡◌, ◌≢◌, ℕ, zero, suc, length, ◌*◌, ◌<◌, Bool, true, false, List, get_or, refl, sym, ap, ◌∙◌, subst, arith}
 use Rattle.std.proofs.Math.Decide.{ℕ_discrete}
 use mathlib.Core.Logic.{dite}
 use Rattle.pp_link.specs.declared.layout.Sizes.{Sizes}
 use Rattle.pp_link.specs.Links.{target, invalid_bit}
-use Rattle.pp_link.specs.Places.{IsNumber, head_place, cell_place, walk_place}
+use Rattle.pp_link.specs.Places.{head_place, cell_place}
 use Rattle.pp_rule.specs.Orders.{stores}
-use Rattle.pp_rule.specs.Steps.{MadeStep, MadeQuietStep, Confirmed}
+use Rattle.pp_rule.specs.Steps.{MadeStep, Confirmed}
 use Rattle.pp_rule.specs.Views.{slot}
 use Rattle.pp_rule.proofs.Made.{known_after}
 use Rattle.pp_queues.specs.declared.calls.QueueChange.{QueueChange}
 use Rattle.pp_queues.specs.declared.calls.QueuePlaced.{QueuePlaced}
 use Rattle.pp_queues.specs.Queues.{QueuePass, QueueView}
-use Rattle.pp_queues.specs.Turns.{stand, Came, Saw, Looked, Tried, Advanced, Took}
+use Rattle.pp_queues.specs.Turns.{stand, Came, Saw, Looked, Tried, Advanced}
 use Rattle.pp_queue.specs.Calling.{StandsAt, IsHeadWord}
 use Rattle.pp_queue.specs.Steps.{LinkedAt}
 use Rattle.atomic_table.specs.declared.shared.Seat.{Seat}
@@ -198,7 +199,7 @@ pub load_left : {kind place word : ℕ} {cs : List QueueChange} {ps : List Queue
 load_left {place = place} v w made sizes one low seen loads = found_here v w made sizes one low seen loads
     ∙ sym (ap (λ (ws : List ℕ). get_or ws place 0) (words_stay v w made sizes one low seen loads refl))
 
--- so do the steps of a reclaim pass and those at shelf words
+-- The steps of a reclaim pass and those at shelf words leave no record behind head 1.
 flushed_own : (z : Sizes) (n : ℕ) (v w : QueueView) → Flushed 1 z n v w → w.known.own ≡ v.known.own
 flushed_own z zero v w is = ap (λ (u : QueueView). u.known.own) is
 flushed_own z (suc n) v w (next, (one, rest)) = flushed_own z n next w rest ∙ ap (λ (q : QueuePass). q.own) one.known

@@ -1,5 +1,5 @@
 -- A take may move head 0 on where head 1 has passed the dummy and the record behind it is held.
-use Rattle.std.proofs.Common.{◌≡◌, ◌≢◌, ℕ, ◌+◌, ◌*◌, ◌/◌, ◌<◌, ◌≤◌, Bool, true, refl, sym, ap, ◌∙◌, subst, arith}
+use Rattle.std.proofs.Common.{◌≡◌, ◌≢◌, ℕ, ◌*◌, ◌/◌, Bool, true, sym, ap, ◌∙◌, arith}
 use Rattle.pp_link.specs.declared.layout.Sizes.{Sizes}
 use Rattle.pp_link.specs.Links.{target}
 use Rattle.pp_rule.specs.declared.views.WalkSlot.{WalkSlot}

@@ -1,5 +1,5 @@
 -- Where a queue has one pass, its words between two steps of it stand still, and the pass finds what it left.
-use Rattle.std.proofs.Common.{◌≡◌, ◌≢◌, ℕ, ◌+◌, ◌*◌, ◌<◌, ◌≤◌, true, false, List, [], ◌∷◌, ◌++◌, length, get_or, set, refl, sym, ap}
+use Rattle.std.proofs.Common.{◌≡◌, ◌≢◌, ℕ, ◌+◌, ◌*◌, ◌<◌, true, false, List, [], ◌∷◌, ◌++◌, length, get_or, set, refl, sym, ap}
 use Rattle.std.proofs.Common.{◌∙◌, subst, arith}
 use Rattle.std.proofs.lemmas.List.{set-get_or, get_or-set_other}
 use Rattle.std.proofs.Math.Decide.{ℕ_discrete}
@@ -7,7 +7,7 @@ use mathlib.Core.Logic.{dite}
 use Rattle.atomic_table.specs.declared.shared.Seat.{Seat}
 use Rattle.pp_link.specs.declared.layout.Sizes.{Sizes}
 use Rattle.pp_link.specs.Links.{target, invalid_bit}
-use Rattle.pp_link.specs.Places.{IsNumber, head_place, cell_place}
+use Rattle.pp_link.specs.Places.{head_place, cell_place}
 use Rattle.pp_link.specs.Words.{head_word, cell_word}
 use Rattle.pp_rule.specs.Lists.{IsIn}
 use Rattle.pp_rule.specs.Orders.{stores, replayed, entries_of}

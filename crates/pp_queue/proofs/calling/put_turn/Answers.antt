@@ -26,7 +26,6 @@ use Rattle.pp_queue.specs.Calling.{SameLists}
 use Rattle.pp_queue.proofs.Running.{ran_idle, ran_is, ran_looked, ran_unlinked, ran_advanced}
 use Rattle.pp_queue.proofs.Publishing.{published_linked, put_struck, lists_on, lists_rest, record_private}
 use Rattle.pp_queue.proofs.calling.put_turn.Goals as goal
-use Rattle.pp_queue.specs.Standing.{StaysUp}
 use Rattle.pp_queue.proofs.Standing.{seen_of}
 use Rattle.pp_queue.proofs.Finding.{up_made, put_last, put_links, put_advances}
 use Rattle.std.proofs.Math.Bool.{false≢true}

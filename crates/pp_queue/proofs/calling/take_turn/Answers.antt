@@ -17,7 +17,6 @@ use Rattle.pp_queue.specs.Standing.{StaysUp}
 use Rattle.pp_queue.proofs.Standing.{seen_of}
 use Rattle.pp_queue.proofs.Finding.{up_made, up_on, up_saw, up_tried, up_advanced, take_valid, take_link, take_past}
 use Rattle.std.proofs.Math.Bool.{false≢true}
-use Rattle.pp_queues.specs.declared.own.QueueOwn.{QueueOwn}
 
 pub returns-then-not-stand_at-clause-rest : goal.returns-then-not-stand_at-clause-rest
 returns-then-not-stand_at-clause-rest c = let pass = c.args.pass.now in let a = c.stand_at.new.pass in

@@ -7,7 +7,7 @@ use Rattle.pp_queue.specs.Answers.{RanOut, Idles}
 use Rattle.pp_queue.proofs.Idling.{idles_none, idles_both, idles_reclaimed, idles_collected}
 use Rattle.pp_queue.proofs.Reclaiming.{ran_out, if_none}
 use Rattle.pp_queue.proofs.records.take_record.Goals as goal
-use Rattle.pp_queue.proofs.Finding.{up_made, up_on, up_seat, up_reclaimed, up_shelved}
+use Rattle.pp_queue.proofs.Finding.{up_on, up_seat, up_reclaimed, up_shelved}
 
 pub returns-in-Some-clause-idles : goal.returns-in-Some-clause-idles
 returns-in-Some-clause-idles c = idles_none c.args.pool.now.layout.passes (view c.args.pass.now.seat) (view c.take.new.pass.seat)

@@ -14,9 +14,8 @@ use Rattle.pp_queue.proofs.Whole.{head_word_of, ended, record_on, struck_on}
 use Rattle.pp_queue.proofs.trying.link_record.Goals as goal
 use Rattle.std.proofs.Math.Bool.{false≢true}
 use Rattle.pp_link.specs.declared.layout.Sizes.{Sizes}
-use Rattle.pp_queue.specs.Standing.{StaysUp}
 use Rattle.pp_queue.proofs.Standing.{seen_of}
-use Rattle.pp_queue.proofs.Finding.{up_made, up_on, load_left}
+use Rattle.pp_queue.proofs.Finding.{up_made, load_left}
 
 pub again-init : goal.again-init
 again-init c = let v0 = view c.args.pass.now.seat in let v1 = view c.load_end-first.new.pass.seat in

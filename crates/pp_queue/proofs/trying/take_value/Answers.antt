@@ -11,9 +11,7 @@ use Rattle.pp_queue.proofs.Turning.{rest_same_lists, rest_goes}
 use Rattle.pp_queue.proofs.Running.{ran_ends}
 use Rattle.pp_queue.proofs.Whole.{head_word_of, began, began_on, begun, went_self, went_more, took_none, took_one, free_on}
 use Rattle.pp_queue.proofs.trying.take_value.Goals as goal
-use Rattle.std.proofs.Math.Bool.{false≢true}
 use Rattle.pp_link.specs.declared.layout.Sizes.{Sizes}
-use Rattle.pp_queue.specs.Standing.{StaysUp}
 use Rattle.pp_queue.proofs.Standing.{seen_of}
 use Rattle.pp_queue.proofs.Finding.{up_made, up_on, load_left}
 
