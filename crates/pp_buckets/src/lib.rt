@@ -7,9 +7,6 @@ ghost use Rattle.std.specs.Prelude.{◌≡◌, ◌<◌, IfOk, length};
 ghost use Rattle.pp_link.specs.Places.{IsWithin};
 ghost use Rattle.pp_model.specs.Lists.{AtEach};
 ghost use Rattle.pp_model.specs.Pass.{IsFresh};
-ghost use Rattle.pp_model.specs.MapCalls.{IsClean};
-ghost use Rattle.pp_shelf.specs.Runs.{map_sizes};
-ghost use Rattle.pp_list.specs.Meant.{list_meaning};
 ghost use Rattle.pp_lists.specs.Walks.{bucket};
 ghost use Rattle.pp_calls.specs.PoolViews.{pass_view};
 ghost use Rattle.pp_rule.specs.Opening.{share_of};
@@ -56,8 +53,6 @@ impl Buckets {
         ensures share { IfOk result (λ made. AtEach made.1.items (λ k p. (pass_view p).share
             ≡ share_of 0 (table_sizes passes records buckets) k)) }
         ensures callers { IfOk result (λ made. AtEach made.1.items (λ k p. (pass_view p).caller ≡ k)) }
-        ensures clean { IfOk result (λ made. AtEach made.1.items (λ k p. IsClean list_meaning
-            (map_sizes (table_sizes passes records buckets)) (pass_view p))) }
     {
         let heads = buckets;
         let sizes = Sizes {

@@ -11,12 +11,12 @@ ghost use Rattle.pp_peg_scenes.specs.Puts.{HasPeg, PutBack};
 
 use crate::peg_tests::{behind, pull_all};
 use crate::pegs::PegShape;
+use crate::staging::{SMALLEST, end, open};
 use pp_base::steps::{About, NOTHING, exchange_word};
 use pp_base::{Pass, Place, Pool, Side};
 use pp_hazard::{Protect, clear, key, try_protect, value};
 use pp_link::Link;
 use pp_pool::{Fresh, published, set_key, set_link, set_value, take};
-use pp_scenes::staging::{SMALLEST, end, open};
 use std::marker::Brand;
 use std::process::Abort;
 

@@ -8,3 +8,5 @@ mod peg_tests;
 pub mod pegs;
 #[cfg(test)]
 mod shelving;
+#[cfg(test)]
+mod staging;

@@ -6,11 +6,11 @@ ghost use Rattle.pp_base.specs.Passes.{known, Fits, IsSame, IsIdle, IsAtRest};
 ghost use Rattle.pp_peg_scenes.specs.Pegs.{next_peg};
 
 use crate::pegs::PegShape;
+use crate::staging::{SMALLEST, end, open};
 use pp_base::{Pass, Place, Pool, Side};
 use pp_hazard::{Protect, clear, link, try_protect};
 use pp_link::Link;
 use pp_reclaim::reclaim;
-use pp_scenes::staging::{SMALLEST, end, open};
 use pp_unlink::{Unlink, try_unlink};
 use std::process::Abort;
 

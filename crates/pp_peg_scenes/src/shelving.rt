@@ -6,11 +6,11 @@ ghost use Rattle.pp_base.specs.Passes.{known, Fits, IsSame, IsIdle, IsAtRest};
 
 use crate::peg_tests::pull;
 use crate::pegs::PegShape;
+use crate::staging::{end, open};
 use pp_base::{Pass, Pool};
 use pp_link::Sizes;
 use pp_pool::{give_back, set_key, take};
 use pp_reclaim::reclaim;
-use pp_scenes::staging::{end, open};
 use pp_shelf::{collect, put, take_any, tidy};
 use std::process::Abort;
 

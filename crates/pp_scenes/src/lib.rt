@@ -1,11 +1,12 @@
-//! Worked scenes over pools of RowShape: what no single clause says, run once each; and the parts with which scenes over other shapes
-//! begin and end.
+//! Worked scenes over pools of RowShape: what no single clause says, run once each. This crate has tests alone, and what they know of
+//! their passes.
 #![tactic(auto)]
 
 #[cfg(test)]
 mod detaching;
 #[cfg(test)]
 mod noted;
-pub mod staging;
+#[cfg(test)]
+mod staging;
 #[cfg(test)]
 mod tests;

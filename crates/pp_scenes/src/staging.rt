@@ -16,21 +16,25 @@ use std::alloc::Global;
 use std::process::Abort;
 
 /// Two passes, eight records and one head.
-pub const SMALL: Sizes = Sizes {
+pub(crate) const SMALL: Sizes = Sizes {
     passes: 2,
     records: 8,
     heads: 1,
 };
 
 /// One pass, eight records and one head.
-pub const SMALLEST: Sizes = Sizes {
+pub(crate) const SMALLEST: Sizes = Sizes {
     passes: 1,
     records: 8,
     heads: 1,
 };
 
 /// A pool of this shape, and its passes.
-pub fn open<S: Shape>(rt: &impl Abort, alloc: Global, sizes: Sizes) -> (Pool<S>, Vec<Pass<S>>)
+pub(crate) fn open<S: Shape>(
+    rt: &impl Abort,
+    alloc: Global,
+    sizes: Sizes,
+) -> (Pool<S>, Vec<Pass<S>>)
     requires { IsWithin sizes }
     ensures sizes { result.0.layout ≡ sizes }
     ensures count { length result.1.items ≡ sizes.passes }
@@ -43,7 +47,7 @@ pub fn open<S: Shape>(rt: &impl Abort, alloc: Global, sizes: Sizes) -> (Pool<S>,
 }
 
 /// Closes the pool.
-pub fn end<S: Shape>(
+pub(crate) fn end<S: Shape>(
     rt: &impl Abort,
     alloc: Global,
     pool: Pool<S>,

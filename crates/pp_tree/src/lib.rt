@@ -7,9 +7,6 @@ ghost use Rattle.std.specs.Prelude.{◌≡◌, IfOk, length};
 ghost use Rattle.pp_link.specs.Places.{IsWithin};
 ghost use Rattle.pp_model.specs.Lists.{AtEach};
 ghost use Rattle.pp_model.specs.Pass.{IsFresh};
-ghost use Rattle.pp_model.specs.MapCalls.{IsClean};
-ghost use Rattle.pp_shelf.specs.Runs.{map_sizes};
-ghost use Rattle.pp_tree_turns.specs.Causes.{tree_meaning};
 ghost use Rattle.pp_calls.specs.PoolViews.{pass_view};
 ghost use Rattle.pp_rule.specs.Opening.{share_of};
 ghost use Rattle.pp_turns.specs.Passes.{IsMember, IsResting};
@@ -55,8 +52,6 @@ impl Tree {
         ensures share { IfOk result (λ made. AtEach made.1.items (λ k p. (pass_view p).share
             ≡ share_of 5 (tree_sizes passes records) k)) }
         ensures callers { IfOk result (λ made. AtEach made.1.items (λ k p. (pass_view p).caller ≡ k)) }
-        ensures clean { IfOk result (λ made. AtEach made.1.items (λ k p. IsClean tree_meaning (map_sizes (tree_sizes passes records))
-            (pass_view p))) }
     {
         let sizes = Sizes {
             passes,
