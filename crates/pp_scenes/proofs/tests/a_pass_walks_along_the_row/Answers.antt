@@ -1,7 +1,13 @@
-use Rattle.std.proofs.Common.{sym, arith, rules}
+use Rattle.std.proofs.Common.{sym, ◌∙◌, arith, rules}
 use Rattle.std.proofs.lemmas.Option.{slice_get_read}
 use Rattle.pp_scenes.proofs.Scenes.{each_set, holds_none, seat_after}
 use Rattle.pp_scenes.proofs.tests.a_pass_walks_along_the_row.Goals as goal
+
+pub walk_along-requires-clause-fits : goal.walk_along-requires-clause-fits
+walk_along-requires-clause-fits g c = let pass = c.index_mut.result.now in
+    let new = c.open-pool.ensures.passes 0 pass
+    (slice_get_read c.open-pool.result.1.items 2 0 pass (sym c.open-pool.ensures.count) (omega arith) c.index_mut.ensures.value) in
+    record { table_is = new.fits.table_is; sizes = new.fits.sizes ∙ sym c.open-pool.ensures.sizes }
 
 pub walk_along-requires-clause-holds : goal.walk_along-requires-clause-holds
 walk_along-requires-clause-holds g c = let pass = c.index_mut.result.now in

@@ -1,7 +1,13 @@
-use Rattle.std.proofs.Common.{sym, arith, rules}
+use Rattle.std.proofs.Common.{sym, ◌∙◌, arith, rules}
 use Rattle.std.proofs.lemmas.Option.{slice_get_read}
 use Rattle.pp_scenes.proofs.Scenes.{each_set, seat_after}
 use Rattle.pp_scenes.proofs.tests.records_are_taken_and_given_back.Goals as goal
+
+pub take_and_give_back-requires : goal.take_and_give_back-requires
+take_and_give_back-requires g c = let pass = c.index_mut.result.now in
+    let new = c.open-pool.ensures.passes 0 pass
+    (slice_get_read c.open-pool.result.1.items 2 0 pass (sym c.open-pool.ensures.count) (omega arith) c.index_mut.ensures.value) in
+    record { fits = record { table_is = new.fits.table_is; sizes = new.fits.sizes ∙ sym c.open-pool.ensures.sizes } }
 
 pub end-closed-requires-clause-each : goal.end-closed-requires-clause-each
 end-closed-requires-clause-each g c = let passes = c.open-pool.result.1.items in let pass = c.index_mut.result.now in
