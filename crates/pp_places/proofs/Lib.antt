@@ -4,3 +4,5 @@ pub mod Callers
 pub mod Texts
 pub mod Certified
 pub mod Runs
+pub mod Holding
+pub mod Fits

@@ -1,2 +1,3 @@
 pub mod Places
 pub mod Certified
+pub mod Held

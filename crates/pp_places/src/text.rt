@@ -4,7 +4,8 @@ ghost use Rattle.std.specs.Prelude.{◌≡◌, ℕ, ◌+◌, ◌≤◌, ◌++◌
 ghost use Rattle.std.specs.Fmt.{decimal};
 ghost use Rattle.arrayvec.specs.ArrayString.{array_string_len};
 ghost use Rattle.pp_trace.specs.Text.{reply_text};
-ghost use Rattle.pp_certificate.specs.Printed.{call_text, change_line, said_line};
+ghost use Rattle.pp_certificate.specs.Printed.{call_text, change_line, said_line, ReplyFits};
+ghost use Rattle.pp_places.specs.Held.{IsCallHeld, IsChangeHeld, IsPlacedHeld};
 
 use arrayvec::ArrayString;
 use itoa::Buffer;
@@ -43,6 +44,7 @@ fn push_call(text: &mut ArrayString<LINE>, call: &Call)
     requires { array_string_len text.old + 67 ≤ 168 }
     ensures bytes { text.new.bytes ≡ text.old.bytes ++ call_text call.now }
     ensures len { array_string_len text.new ≤ array_string_len text.old + 67 }
+    ensures held { IsCallHeld call.now }
 {
     match call {
         Call::Get { key } => {
@@ -68,6 +70,7 @@ fn push_reply(text: &mut ArrayString<LINE>, reply: &Reply)
     requires { array_string_len text.old + 45 ≤ 168 }
     ensures bytes { text.new.bytes ≡ text.old.bytes ++ reply_text reply.now }
     ensures len { array_string_len text.new ≤ array_string_len text.old + 45 }
+    ensures held { ReplyFits reply.now }
 {
     match reply {
         Reply::Value(value) => {
@@ -93,7 +96,8 @@ fn push_reply(text: &mut ArrayString<LINE>, reply: &Reply)
 
 /// The line of a change.
 pub fn of_change(change: &Change) -> ArrayString<LINE>
-    ensures { result.bytes ≡ change_line change.now }
+    ensures line { result.bytes ≡ change_line change.now }
+    ensures held { IsChangeHeld change.now }
 {
     let mut line = ArrayString::new();
     line.push_str("change ");
@@ -108,7 +112,8 @@ pub fn of_change(change: &Change) -> ArrayString<LINE>
 
 /// The line of a caller's placed call.
 pub fn of_said(caller: u32, placed: &Placed) -> ArrayString<LINE>
-    ensures { result.bytes ≡ said_line caller placed.now }
+    ensures line { result.bytes ≡ said_line caller placed.now }
+    ensures held { IsPlacedHeld placed.now }
 {
     let mut line = ArrayString::new();
     line.push_str("said ");

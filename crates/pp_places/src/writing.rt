@@ -3,6 +3,8 @@
 ghost use Rattle.std.specs.Prelude.{◌≡◌, ◌≤◌, ◌++◌, map, length, IfOk, OnOk};
 ghost use Rattle.std.specs.List.{flat_map};
 ghost use Rattle.pp_certificate.specs.Printed.{certificate_text, change_line, said_line, said_text};
+ghost use Rattle.pp_model.specs.Lists.{AtEach};
+ghost use Rattle.pp_places.specs.Held.{AreHeld, IsLogHeld, IsListHeld};
 
 use crate::text::{of_change, of_said};
 use pp_model::{Change, NoMemory, Placed};
@@ -19,7 +21,8 @@ pub fn certificate_of(
     lists: &[Vec<Placed>],
 ) -> Result<Vec<u8>, NoMemory>
     requires { length lists.now ≤ 64 }
-    ensures { IfOk result (λ text. text.items ≡ certificate_text log.now (map (λ v. v.items) lists.now)) }
+    ensures text { IfOk result (λ text. text.items ≡ certificate_text log.now (map (λ v. v.items) lists.now)) }
+    ensures held { IfOk result (λ text. AreHeld log.now (map (λ v. v.items) lists.now)) }
 {
     let mut text = Vec::new(alloc);
     push_text(&mut text, "certificate 1\n")?;
@@ -39,7 +42,8 @@ fn push_text(text: &mut Vec<u8>, more: &str) -> Result<(), NoMemory>
 }
 
 fn push_log(text: &mut Vec<u8>, log: &[Change]) -> Result<(), NoMemory>
-    ensures { OnOk result (text.new.items ≡ text.old.items ++ flat_map change_line log.now) }
+    ensures text { OnOk result (text.new.items ≡ text.old.items ++ flat_map change_line log.now) }
+    ensures held { OnOk result (IsLogHeld log.now) }
 {
     for at in 0..log.len() {
         let line = of_change(&log[at]);
@@ -50,7 +54,8 @@ fn push_log(text: &mut Vec<u8>, log: &[Change]) -> Result<(), NoMemory>
 
 fn push_lists(text: &mut Vec<u8>, lists: &[Vec<Placed>]) -> Result<(), NoMemory>
     requires { length lists.now ≤ 64 }
-    ensures { OnOk result (text.new.items ≡ text.old.items ++ said_text 0 (map (λ v. v.items) lists.now)) }
+    ensures text { OnOk result (text.new.items ≡ text.old.items ++ said_text 0 (map (λ v. v.items) lists.now)) }
+    ensures held { OnOk result (AtEach (map (λ v. v.items) lists.now) (λ c mine. IsListHeld mine)) }
 {
     for caller in 0..lists.len() {
         push_list(text, caller as u32, &lists[caller])?;
@@ -59,7 +64,8 @@ fn push_lists(text: &mut Vec<u8>, lists: &[Vec<Placed>]) -> Result<(), NoMemory>
 }
 
 fn push_list(text: &mut Vec<u8>, caller: u32, list: &[Placed]) -> Result<(), NoMemory>
-    ensures { OnOk result (text.new.items ≡ text.old.items ++ flat_map (said_line caller) list.now) }
+    ensures text { OnOk result (text.new.items ≡ text.old.items ++ flat_map (said_line caller) list.now) }
+    ensures held { OnOk result (IsListHeld list.now) }
 {
     for at in 0..list.len() {
         let line = of_said(caller, &list[at]);

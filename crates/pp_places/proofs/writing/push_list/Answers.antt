@@ -2,19 +2,27 @@ use Rattle.std.proofs.Common.{arith, ◌≡◌, ◌++◌, ◌≤◌, length, tak
 use Rattle.std.specs.List.{flat_map}
 use Rattle.std.proofs.lemmas.List.{take_all}
 use Rattle.pp_certificate.specs.Printed.{said_line}
+use Rattle.pp_places.specs.Held.{IsPlacedHeld}
 use Rattle.pp_places.proofs.Texts.{pushed}
+use Rattle.pp_places.proofs.Holding.{first_none, first_more, first_all}
 use Rattle.pp_places.proofs.writing.push_list.Goals as goal
 
 pub loop-at-init : goal.loop-at-init
-loop-at-init c = sym (append-nil c.args.text.now.items)
+loop-at-init c = record { text = sym (append-nil c.args.text.now.items); held = first_none IsPlacedHeld c.args.list.now 0 }
 
 pub loop-at-preserved : goal.loop-at-preserved
-loop-at-preserved c =
-    pushed (said_line c.args.caller) c.args.list.now c.loop-at.at _ c.args.text.now.items c.loop-at.text.items c.push_text.new.text.items
-    c.loop-at-test.true c.loop-at.invariant
-    (c.in_ok-push_text.ensures ∙ ap (λ l. c.loop-at.text.items ++ l) (c.as_str.ensures.value ∙ c.of_said-line.ensures))
+loop-at-preserved c = record {
+  text = pushed (said_line c.args.caller) c.args.list.now c.loop-at.at _ c.args.text.now.items c.loop-at.text.items
+      c.push_text.new.text.items c.loop-at-test.true c.loop-at.invariant.text
+      (c.in_ok-push_text.ensures ∙ ap (λ l. c.loop-at.text.items ++ l) (c.as_str.ensures.value ∙ c.of_said-line.ensures.line));
+  held = first_more IsPlacedHeld c.args.list.now c.loop-at.at _ c.loop-at.invariant.held c.of_said-line.ensures.held;
+}
 
-pub returns : goal.returns
-returns c =
-    c.loop-at.invariant ∙ ap (λ l. c.args.text.now.items ++ flat_map (said_line c.args.caller) l)
+pub returns-clause-text : goal.returns-clause-text
+returns-clause-text c =
+    c.loop-at.invariant.text ∙ ap (λ l. c.args.text.now.items ++ flat_map (said_line c.args.caller) l)
     (take_all c.loop-at.at c.args.list.now (omega (arith, c.loop-at-test.false)))
+
+pub returns-clause-held : goal.returns-clause-held
+returns-clause-held c =
+    first_all IsPlacedHeld c.args.list.now c.loop-at.at (omega (arith, c.loop-at-test.false)) c.loop-at.invariant.held
