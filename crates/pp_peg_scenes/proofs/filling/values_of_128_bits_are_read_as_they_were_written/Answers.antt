@@ -3,6 +3,11 @@ use Rattle.std.proofs.lemmas.Option.{slice_get_read}
 use Rattle.pp_scenes.proofs.Scenes.{each_set, holds_none, seat_after}
 use Rattle.pp_peg_scenes.proofs.filling.values_of_128_bits_are_read_as_they_were_written.Goals as goal
 
+pub fill_and_read-requires-clause-rest : goal.fill_and_read-requires-clause-rest
+fill_and_read-requires-clause-rest g c = let pass = c.index_mut.result.now in
+    (c.open-pool.ensures.passes 0 pass
+    (slice_get_read c.open-pool.result.1.items 1 0 pass (sym c.open-pool.ensures.count) (omega arith) c.index_mut.ensures.value)).rests
+
 pub fill_and_read-requires-clause-clear : goal.fill_and_read-requires-clause-clear
 fill_and_read-requires-clause-clear g c = let pass = c.index_mut.result.now in
     let none = holds_none _ _ 0 pass (c.open-pool.ensures.passes 0 pass

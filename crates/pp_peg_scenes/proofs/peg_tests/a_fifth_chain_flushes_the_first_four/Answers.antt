@@ -3,6 +3,11 @@ use Rattle.std.proofs.lemmas.Option.{slice_get_read}
 use Rattle.pp_scenes.proofs.Scenes.{each_set, holds_none, seat_after}
 use Rattle.pp_peg_scenes.proofs.peg_tests.a_fifth_chain_flushes_the_first_four.Goals as goal
 
+pub pull_all-requires-clause-rest : goal.pull_all-requires-clause-rest
+pull_all-requires-clause-rest g c = let pass = c.index_mut.result.now in
+    (c.open-pool.ensures.passes 0 pass
+    (slice_get_read c.open-pool.result.1.items 1 0 pass (sym c.open-pool.ensures.count) (omega arith) c.index_mut.ensures.value)).rests
+
 pub pull_all-requires-clause-clear : goal.pull_all-requires-clause-clear
 pull_all-requires-clause-clear g c = let pass = c.index_mut.result.now in
     let none = holds_none _ _ 0 pass (c.open-pool.ensures.passes 0 pass
