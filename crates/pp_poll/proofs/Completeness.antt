@@ -17,14 +17,15 @@ use Rattle.pp_replay.proofs.Completeness.{gave_all, gave_part}
 use Rattle.pp_poll.specs.declared.ways.PolledWay.{PolledWay}
 use Rattle.pp_poll.specs.declared.ways.PolledWay.TheVariants.{Ended, BadPlan, NotRun}
 use Rattle.pp_poll.specs.PolledWays.{status_of}
+use Rattle.pp_poll.specs.Certificates.{asks_places, setting_words}
 use Rattle.pp_poll.specs.Polled.{Cause, HasBadLine, HasBadPlan, IsGood, IsAnswered}
 
 module _ (words : List (List ℕ)) (before after : World) (f g : ℕ) (answers : List (List Answer)) (kept : Option RunView)
     (good : IsGood words before after f g) where
-  same_settings : (settings : Settings) → settings_of words ≡ Some settings → settings ≡ good.settings
+  same_settings : (settings : Settings) → settings_of (setting_words words) ≡ Some settings → settings ≡ good.settings
   same_settings settings said = let mine = good.said_by in cc
 
-  no_bad_line : (settings : Settings) (line : ℕ) (why : Why) → settings_of words ≡ Some settings → settings.make ≡ None
+  no_bad_line : (settings : Settings) (line : ℕ) (why : Why) → settings_of (setting_words words) ≡ Some settings → settings.make ≡ None
       → HasBadLine settings.callers line why before.source after.source → ⊥
   no_bad_line settings line why said reads found =
       let same = same_settings settings said in
@@ -35,7 +36,7 @@ module _ (words : List (List ℕ)) (before after : World) (f g : ℕ) (answers :
       let first = found.first in
       absurd cc
 
-  no_bad_plan : (settings : Settings) (line : ℕ) (why : PlanWhy) → settings_of words ≡ Some settings → settings.make ≡ None
+  no_bad_plan : (settings : Settings) (line : ℕ) (why : PlanWhy) → settings_of (setting_words words) ≡ Some settings → settings.make ≡ None
       → HasBadPlan settings.callers line why before.source after.source → ⊥
   no_bad_plan settings line why said reads found =
       let same = same_settings settings said in
@@ -47,14 +48,14 @@ module _ (words : List (List ℕ)) (before after : World) (f g : ℕ) (answers :
       let first = found.first in
       absurd cc
 
-  not_too_long : (settings : Settings) → settings_of words ≡ Some settings → settings.make ≡ None
+  not_too_long : (settings : Settings) → settings_of (setting_words words) ≡ Some settings → settings.make ≡ None
       → GaveMore 16777216 before.source.bytes after.source.bytes → ⊥
   not_too_long settings said reads gave =
       let same = same_settings settings said in
       let told = good.trace (ap (λ s. s.make) (sym same) ∙ reads) in
       absurd (omega (arith, gave_part before.source.bytes after.source.bytes told.0 gave.bytes told.1 gave.consumed, gave.many, told.2))
 
-  pub complete : (w : PolledWay) → Cause w words before after f g answers kept → IsAnswered (status_of w)
+  pub complete : (w : PolledWay) → Cause w (asks_places words) (setting_words words) before after f g answers kept → IsAnswered (status_of w)
   complete (Ended way.Answered) cause = inl refl
   complete (Ended (way.Partly full lost)) cause = inr (inl refl)
   complete (Ended way.BadWords) cause = absurd (let said = good.said_by in let none = cause.0 in cc)

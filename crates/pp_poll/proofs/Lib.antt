@@ -1,2 +1,4 @@
 pub mod Finishes
 pub mod Completeness
+pub mod Right
+pub mod Words

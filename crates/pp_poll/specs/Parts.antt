@@ -1,5 +1,5 @@
 -- What the parts of a replay by a plan come to.
-use Rattle.std.specs.Prelude.{◌≡◌, ℕ, List, Option, Some, None, ⊤}
+use Rattle.std.specs.Prelude.{◌≡◌, ℕ, ◌≤◌, ◌⊎◌, List, Option, Some, None, ⊤}
 use Rattle.pp_model.specs.declared.Call.{Call}
 use Rattle.pp_model.specs.Pass.{PassView, MapSizes, Meaning, RunView}
 use Rattle.pp_trace.specs.declared.Make.{Make}
@@ -18,9 +18,11 @@ use Rattle.pp_poll.specs.declared.ways.PolledWay.{PolledWay}
 use Rattle.pp_poll.specs.declared.ways.PolledWay.TheVariants.{Ended, BadPlan, NotRun}
 use Rattle.pp_poll.specs.Polled.{HasBadLine, HasBadPlan}
 
--- A map of this meaning and these sizes is the one that the settings choose: also its runs by a plan are runs of that one.
+-- A map of this meaning and these sizes is the one that the settings choose: also its runs by a plan are runs of that one. Each of its
+-- turns makes a step, but where there is one caller alone.
 pub record IsChosenToPoll (meaning : Meaning) (sizes : MapSizes) (settings : Settings) : Type 0 where
   pub chosen : IsChosen meaning sizes settings
+  pub turns : (1 ≤ meaning.turn_steps) ⊎ (settings.callers ≡ 1)
   pub plans : (plan : List ℕ) → (opened : List PassView) → (lists : List (List Call)) → (run : RunView)
       → IsPlanned meaning sizes settings.races plan opened lists run
       → IsPlanned (meaning_of settings.map) (sizes_of settings) settings.races plan opened lists run

@@ -1,12 +1,11 @@
 -- What the ending of a replay by a plan means.
-use Rattle.std.specs.Prelude.{◌≡◌, ◌≢◌, ℕ, ◌+◌, ◌≤◌, ◌<◌, ◌⊎◌, List, [], length, Option, Some, None}
+use Rattle.std.specs.Prelude.{◌≡◌, ◌≢◌, ℕ, ◌+◌, ◌≤◌, ◌<◌, ◌⊎◌, Bool, List, [], length, Option, Some, None}
 use Rattle.std.specs.Io.KnownBytes.{Appends}
 use Rattle.pp_outside.specs.Outside.{Rose, WasAll, GrewByPrefix}
 use Rattle.pp_devices.specs.declared.ways.Way.TheVariants as way
 use Rattle.pp_devices.specs.Devices.{Device, World, WasUnread, WasTooLong, Untouched}
 use Rattle.pp_model.specs.declared.Call.{Call}
 use Rattle.pp_model.specs.declared.Answer.{Answer}
-use Rattle.pp_model.specs.History.{contents_of}
 use Rattle.pp_model.specs.Pass.{RunView}
 use Rattle.pp_trace.specs.declared.Make.{Make}
 use Rattle.pp_trace.specs.declared.Why.{Why}
@@ -19,10 +18,11 @@ use Rattle.pp_plans.specs.declared.parsing.PlanWhy.{PlanWhy}
 use Rattle.pp_plans.specs.Parts.{parts_of}
 use Rattle.pp_plans.specs.Plans.{IsPlan, bad_behind}
 use Rattle.pp_planned.specs.Planned.{IsPlanned}
-use Rattle.pp_replay.specs.Replay.{EndingView, meaning_of, sizes_of, output, WasMade, IsRunUnder, IsReading, HadNoMemory}
+use Rattle.pp_replay.specs.Replay.{EndingView, meaning_of, sizes_of, WasMade, IsRunUnder, IsReading, HadNoMemory}
 use Rattle.pp_poll.specs.declared.ways.PolledWay.{PolledWay}
 use Rattle.pp_poll.specs.declared.ways.PolledWay.TheVariants.{Ended, BadPlan, NotRun}
 use Rattle.pp_poll.specs.PolledWays.{status_of, line_of}
+use Rattle.pp_poll.specs.Certificates.{asks_places, setting_words, text_of, HasRanges}
 
 -- ---- the calls and the plan
 
@@ -48,8 +48,10 @@ HasInput (Some make) callers before after lists plan = WasMadeAlone make callers
 -- ---- what an answered replay by a plan says
 
 -- The words say settings; the source, or the made trace, says each caller's calls, and the plan; the run of the chosen map answered
--- the calls, and its turns were made by the plan; and the text is that of the answers and of the map after the whole log.
-pub record IsPolled (words : List (List ℕ)) (before after : World) (answers : List (List Answer)) (kept : Option RunView) : Type 0 where
+-- the calls, and its turns were made by the plan; and the text is that of the answers and of the map after the whole log, or, with
+-- places, the certificate of the run's own log and lists.
+pub record IsPolled (places : Bool) (words : List (List ℕ)) (before after : World) (answers : List (List Answer))
+    (kept : Option RunView) : Type 0 where
   pub settings : Settings
   pub said_by : settings_of words ≡ Some settings
   pub lists : List (List Call)
@@ -60,20 +62,22 @@ pub record IsPolled (words : List (List ℕ)) (before after : World) (answers : 
   pub under : IsRunUnder settings lists answers run
   pub planned : IsPlanned (meaning_of settings.map) (sizes_of settings) settings.races plan under.opened lists run
   pub text : List ℕ
-  pub text_is : text ≡ output settings.make answers (contents_of run.log)
+  pub text_is : text ≡ text_of places settings.make answers run
+  pub ranges : HasRanges places run
 
 -- everything was written, no write failed, and so many lines are full and lost
-pub record IsWhole (words : List (List ℕ)) (before after : World) (answers : List (List Answer)) (kept : Option RunView)
-    (full lost : ℕ) : Type 0 where
-  pub polled : IsPolled words before after answers kept
+pub record IsWhole (places : Bool) (words : List (List ℕ)) (before after : World) (answers : List (List Answer))
+    (kept : Option RunView) (full lost : ℕ) : Type 0 where
+  pub polled : IsPolled places words before after answers kept
   pub written : Appends before.sink.bytes after.sink.bytes polled.text
   pub unfailed : after.sink.faults ≡ before.sink.faults
   pub full_are : count_all is_full answers ≡ full
   pub lost_are : count_all is_lost answers ≡ lost
 
 -- a failure of the sink cut the output off
-pub record IsCut (words : List (List ℕ)) (before after : World) (answers : List (List Answer)) (kept : Option RunView) : Type 0 where
-  pub polled : IsPolled words before after answers kept
+pub record IsCut (places : Bool) (words : List (List ℕ)) (before after : World) (answers : List (List Answer))
+    (kept : Option RunView) : Type 0 where
+  pub polled : IsPolled places words before after answers kept
   pub rose : Rose before.sink.faults after.sink.faults
   pub written : GrewByPrefix before.sink.bytes after.sink.bytes polled.text
 
@@ -108,30 +112,31 @@ pub record WasNotRun (words : List (List ℕ)) (before after : World) (faults_be
 
 -- ---- the ending
 
--- why a replay by a plan ended in this way
-abbrev pub Cause : PolledWay → List (List ℕ) → World → World → ℕ → ℕ → List (List Answer) → Option RunView → Type 0
-Cause (Ended way.Answered) words before after f g answers kept = IsWhole words before after answers kept 0 0
-Cause (Ended (way.Partly full lost)) words before after f g answers kept =
-    IsWhole words before after answers kept full lost × (0 < full + lost)
-Cause (Ended way.BadWords) words before after f g answers kept = (settings_of words ≡ None) × Untouched before after
-Cause (Ended (way.BadLine line why)) words before after f g answers kept =
+-- why a replay by a plan, with places or without, ended in this way
+abbrev pub Cause : PolledWay → Bool → List (List ℕ) → World → World → ℕ → ℕ → List (List Answer) → Option RunView → Type 0
+Cause (Ended way.Answered) places words before after f g answers kept = IsWhole places words before after answers kept 0 0
+Cause (Ended (way.Partly full lost)) places words before after f g answers kept =
+    IsWhole places words before after answers kept full lost × (0 < full + lost)
+Cause (Ended way.BadWords) places words before after f g answers kept = (settings_of words ≡ None) × Untouched before after
+Cause (Ended (way.BadLine line why)) places words before after f g answers kept =
     IsReading words before after (λ s. HasBadLine s.callers line why before.source after.source)
-Cause (Ended way.Unread) words before after f g answers kept =
+Cause (Ended way.Unread) places words before after f g answers kept =
     IsReading words before after (λ s. WasUnread before.source after.source)
-Cause (Ended way.TooLong) words before after f g answers kept =
+Cause (Ended way.TooLong) places words before after f g answers kept =
     IsReading words before after (λ s. WasTooLong before.source after.source)
-Cause (Ended way.Unwritten) words before after f g answers kept = IsCut words before after answers kept
-Cause (Ended way.NoMemory) words before after f g answers kept = HadNoMemory words before after
-Cause (BadPlan line why) words before after f g answers kept =
+Cause (Ended way.Unwritten) places words before after f g answers kept = IsCut places words before after answers kept
+Cause (Ended way.NoMemory) places words before after f g answers kept = HadNoMemory words before after
+Cause (BadPlan line why) places words before after f g answers kept =
     IsReading words before after (λ s. HasBadPlan s.callers line why before.source after.source)
-Cause NotRun words before after f g answers kept = WasNotRun words before after f g
+Cause NotRun places words before after f g answers kept = WasNotRun words before after f g
 
--- The ending of a replay by a plan: it ended in one way, by its cause, with its status, and its line was told.
+-- The ending of a replay by a plan: it ended in one way, by its cause, with its status, and its line was told. The words but the first
+-- one `places` say the settings.
 pub record IsEnding (words : List (List ℕ)) (before after : World) (faults_before faults_after : ℕ) (Told : List ℕ → Type 0)
     (ending : EndingView) : Type 0 where
   pub way : PolledWay
   pub status : ending.status ≡ status_of way
-  pub cause : Cause way words before after faults_before faults_after ending.answers ending.run
+  pub cause : Cause way (asks_places words) (setting_words words) before after faults_before faults_after ending.answers ending.run
   pub told : Told (line_of way)
 
 -- ---- completeness
@@ -140,7 +145,7 @@ pub record IsEnding (words : List (List ℕ)) (before after : World) (faults_bef
 -- neither the source nor the sink nor the runner failed.
 pub record IsGood (words : List (List ℕ)) (before after : World) (faults_before faults_after : ℕ) : Type 0 where
   pub settings : Settings
-  pub said_by : settings_of words ≡ Some settings
+  pub said_by : settings_of (setting_words words) ≡ Some settings
   pub trace : settings.make ≡ None
       → (bytes : List ℕ) × (before.source.bytes ≡ Some bytes) × (length bytes ≤ 16777216)
       × (bad (parts_of bytes).trace settings.callers ≡ None)

@@ -1,6 +1,6 @@
 //! A replay by a plan up to its last write: words, calls and plan, the run and its text.
 
-ghost use Rattle.std.specs.Prelude.{◌≡◌, ◌<◌, ℕ, List, map, [], Some, string_bytes};
+ghost use Rattle.std.specs.Prelude.{◌≡◌, ◌<◌, ◌≤◌, ℕ, List, map, length, [], Some, true, string_bytes};
 ghost use Rattle.pp_words.specs.declared.Kind.TheVariants as Kind;
 ghost use Rattle.pp_words.specs.Words.{settings_of, InRange};
 ghost use Rattle.pp_replay.specs.declared.ending.Kept.TheVariants as Kept;
@@ -10,6 +10,7 @@ ghost use Rattle.pp_devices.specs.Devices.{Device, device, world};
 ghost use Rattle.pp_replay.specs.Parts.{IsTable};
 ghost use Rattle.pp_model.specs.Lists.{AtEach};
 ghost use Rattle.pp_poll.specs.Polled.{Cause, HasInput};
+ghost use Rattle.pp_poll.specs.Certificates.{asks_places, setting_words};
 
 use crate::input::{Input, take_input};
 use crate::showing::run_shown;
@@ -36,7 +37,7 @@ pub struct Attempt {
     pub answers: Vec<Vec<Answer>>,
 }
 
-/// Makes a replay. The causes of its way are those of the ending.
+/// Makes a replay. The causes of its way are those of the ending. Where the first word is `places`, the others say the settings.
 pub fn make_attempt<R: Wait + RandomSource + AllocGlobal, X: Runner, S: Source, K: Sink>(
     rt: &R,
     alloc: Global,
@@ -45,13 +46,43 @@ pub fn make_attempt<R: Wait + RandomSource + AllocGlobal, X: Runner, S: Source, 
     source: &mut S,
     sink: &mut K,
 ) -> Attempt
-    ensures { Cause result.way (map string_bytes words.now)
+    ensures { Cause result.way (asks_places (map string_bytes words.now)) (setting_words (map string_bytes words.now))
+        (world (device (S.left source.old) (S.faults source.old)) (device (K.written sink.old) (K.faults sink.old)))
+        (world (device (S.left source.new) (S.faults source.new)) (device (K.written sink.new) (K.faults sink.new)))
+        (X.faults runner.old) (X.faults runner.new) (map (λ v. v.items) result.answers.items) (kept_run result.kept) }
+{
+    if asks_places(words) {
+        attempt_with(rt, alloc, true, &words[1..], runner, source, sink)
+    } else {
+        attempt_with(rt, alloc, false, words, runner, source, sink)
+    }
+}
+
+/// Whether the first word asks for the certificate.
+fn asks_places(words: &[String]) -> bool
+    ensures asks { result ≡ asks_places (map string_bytes words.now) }
+    ensures some { result ≡ true → 1 ≤ length words.now }
+{
+    !words.is_empty() && words[0].as_str() == "places"
+}
+
+/// Makes a replay with these words for settings.
+fn attempt_with<R: Wait + RandomSource + AllocGlobal, X: Runner, S: Source, K: Sink>(
+    rt: &R,
+    alloc: Global,
+    places: bool,
+    words: &[String],
+    runner: &mut X,
+    source: &mut S,
+    sink: &mut K,
+) -> Attempt
+    ensures { Cause result.way places (map string_bytes words.now)
         (world (device (S.left source.old) (S.faults source.old)) (device (K.written sink.old) (K.faults sink.old)))
         (world (device (S.left source.new) (S.faults source.new)) (device (K.written sink.new) (K.faults sink.new)))
         (X.faults runner.old) (X.faults runner.new) (map (λ v. v.items) result.answers.items) (kept_run result.kept) }
 {
     match settings(alloc, words) {
-        Ok(settings) => attempt_under(rt, alloc, runner, settings, source, sink),
+        Ok(settings) => attempt_under(rt, alloc, runner, places, settings, source, sink),
         Err(WordsFault::BadWords) => without_run(alloc, PolledWay::Ended(Way::BadWords)),
         Err(WordsFault::NoMemory) => without_run(alloc, PolledWay::Ended(Way::NoMemory)),
     }
@@ -71,18 +102,19 @@ fn attempt_under<R: Wait + RandomSource + AllocGlobal, X: Runner, S: Source, K: 
     rt: &R,
     alloc: Global,
     runner: &mut X,
+    places: bool,
     settings: Settings,
     source: &mut S,
     sink: &mut K,
 ) -> Attempt
     requires { InRange settings }
-    ensures { (words : List (List ℕ)) → settings_of words ≡ Some settings → Cause result.way words
+    ensures { (words : List (List ℕ)) → settings_of words ≡ Some settings → Cause result.way places words
         (world (device (S.left source.old) (S.faults source.old)) (device (K.written sink.old) (K.faults sink.old)))
         (world (device (S.left source.new) (S.faults source.new)) (device (K.written sink.new) (K.faults sink.new)))
         (X.faults runner.old) (X.faults runner.new) (map (λ v. v.items) result.answers.items) (kept_run result.kept) }
 {
     match take_input(alloc, settings.make, settings.callers, source) {
-        Ok(input) => run_chosen(rt, alloc, runner, settings, input, sink),
+        Ok(input) => run_chosen(rt, alloc, runner, places, settings, input, sink),
         Err(way) => without_run(alloc, way),
     }
 }
@@ -92,6 +124,7 @@ fn run_chosen<R: Wait + RandomSource + AllocGlobal, X: Runner, K: Sink>(
     rt: &R,
     alloc: Global,
     runner: &mut X,
+    places: bool,
     settings: Settings,
     input: Input,
     sink: &mut K,
@@ -101,15 +134,24 @@ fn run_chosen<R: Wait + RandomSource + AllocGlobal, X: Runner, K: Sink>(
     requires plan { AtEach input.plan.items (λ k c. c < settings.callers) }
     ensures { (words : List (List ℕ)) → (before : Device) → (after : Device) → settings_of words ≡ Some settings
         → HasInput settings.make settings.callers before after (map (λ v. v.items) input.lists.items) input.plan.items
-        → Cause result.way words
+        → Cause result.way places words
         (world before (device (K.written sink.old) (K.faults sink.old))) (world after (device (K.written sink.new) (K.faults sink.new)))
         (X.faults runner.old) (X.faults runner.new) (map (λ v. v.items) result.answers.items) (kept_run result.kept) }
 {
     match settings.map {
-        Kind::Plain => run_plain(rt, alloc, runner, settings, input, sink),
-        Kind::List => run_table(rt, alloc, runner, settings, 1, input, sink),
-        Kind::Hash => run_table(rt, alloc, runner, settings, settings.buckets, input, sink),
-        Kind::Tree => run_tree(rt, alloc, runner, settings, input, sink),
+        Kind::Plain => run_plain(rt, alloc, runner, places, settings, input, sink),
+        Kind::List => run_table(rt, alloc, runner, places, settings, 1, input, sink),
+        Kind::Hash => run_table(
+            rt,
+            alloc,
+            runner,
+            places,
+            settings,
+            settings.buckets,
+            input,
+            sink,
+        ),
+        Kind::Tree => run_tree(rt, alloc, runner, places, settings, input, sink),
     }
 }
 
@@ -117,6 +159,7 @@ fn run_plain<R: Wait + RandomSource + AllocGlobal, X: Runner, K: Sink>(
     rt: &R,
     alloc: Global,
     runner: &mut X,
+    places: bool,
     settings: Settings,
     input: Input,
     sink: &mut K,
@@ -127,7 +170,7 @@ fn run_plain<R: Wait + RandomSource + AllocGlobal, X: Runner, K: Sink>(
     requires plan { AtEach input.plan.items (λ k c. c < settings.callers) }
     ensures { (words : List (List ℕ)) → (before : Device) → (after : Device) → settings_of words ≡ Some settings
         → HasInput settings.make settings.callers before after (map (λ v. v.items) input.lists.items) input.plan.items
-        → Cause result.way words
+        → Cause result.way places words
         (world before (device (K.written sink.old) (K.faults sink.old))) (world after (device (K.written sink.new) (K.faults sink.new)))
         (X.faults runner.old) (X.faults runner.new) (map (λ v. v.items) result.answers.items) (kept_run result.kept) }
 {
@@ -138,7 +181,9 @@ fn run_plain<R: Wait + RandomSource + AllocGlobal, X: Runner, K: Sink>(
     let Ok(passes) = Vec::from_array(alloc, [pass]) else {
         return without_run(alloc, PolledWay::Ended(Way::NoMemory));
     };
-    let shown = run_shown(rt, alloc, runner, chosen, passes, settings, input, sink);
+    let shown = run_shown(
+        rt, alloc, runner, chosen, passes, places, settings, input, sink,
+    );
     Attempt {
         way: shown.way,
         kept: kept_plain(shown.closed),
@@ -151,6 +196,7 @@ fn run_table<R: Wait + RandomSource + AllocGlobal, X: Runner, K: Sink>(
     rt: &R,
     alloc: Global,
     runner: &mut X,
+    places: bool,
     settings: Settings,
     buckets: u32,
     input: Input,
@@ -162,7 +208,7 @@ fn run_table<R: Wait + RandomSource + AllocGlobal, X: Runner, K: Sink>(
     requires plan { AtEach input.plan.items (λ k c. c < settings.callers) }
     ensures { (words : List (List ℕ)) → (before : Device) → (after : Device) → settings_of words ≡ Some settings
         → HasInput settings.make settings.callers before after (map (λ v. v.items) input.lists.items) input.plan.items
-        → Cause result.way words
+        → Cause result.way places words
         (world before (device (K.written sink.old) (K.faults sink.old))) (world after (device (K.written sink.new) (K.faults sink.new)))
         (X.faults runner.old) (X.faults runner.new) (map (λ v. v.items) result.answers.items) (kept_run result.kept) }
 {
@@ -170,7 +216,9 @@ fn run_table<R: Wait + RandomSource + AllocGlobal, X: Runner, K: Sink>(
     else {
         return without_run(alloc, PolledWay::Ended(Way::NoMemory));
     };
-    let shown = run_shown(rt, alloc, runner, chosen, passes, settings, input, sink);
+    let shown = run_shown(
+        rt, alloc, runner, chosen, passes, places, settings, input, sink,
+    );
     Attempt {
         way: shown.way,
         kept: kept_table(shown.closed),
@@ -182,6 +230,7 @@ fn run_tree<R: Wait + RandomSource + AllocGlobal, X: Runner, K: Sink>(
     rt: &R,
     alloc: Global,
     runner: &mut X,
+    places: bool,
     settings: Settings,
     input: Input,
     sink: &mut K,
@@ -192,14 +241,16 @@ fn run_tree<R: Wait + RandomSource + AllocGlobal, X: Runner, K: Sink>(
     requires plan { AtEach input.plan.items (λ k c. c < settings.callers) }
     ensures { (words : List (List ℕ)) → (before : Device) → (after : Device) → settings_of words ≡ Some settings
         → HasInput settings.make settings.callers before after (map (λ v. v.items) input.lists.items) input.plan.items
-        → Cause result.way words
+        → Cause result.way places words
         (world before (device (K.written sink.old) (K.faults sink.old))) (world after (device (K.written sink.new) (K.faults sink.new)))
         (X.faults runner.old) (X.faults runner.new) (map (λ v. v.items) result.answers.items) (kept_run result.kept) }
 {
     let Ok((chosen, passes)) = Tree::start(alloc, settings.callers, settings.records) else {
         return without_run(alloc, PolledWay::Ended(Way::NoMemory));
     };
-    let shown = run_shown(rt, alloc, runner, chosen, passes, settings, input, sink);
+    let shown = run_shown(
+        rt, alloc, runner, chosen, passes, places, settings, input, sink,
+    );
     Attempt {
         way: shown.way,
         kept: kept_tree(shown.closed),

@@ -9,6 +9,8 @@ ghost use Rattle.pp_poll.specs.Polled.{IsEnding, IsGood, IsAnswered};
 mod attempt;
 mod ending;
 mod input;
+pub mod laws;
+mod printing;
 mod showing;
 mod telling;
 mod ways;
@@ -24,7 +26,9 @@ pub use ways::PolledWay;
 
 /// Does all that the program does: reads its words, reads or makes the trace, reads the plan behind the trace, makes the calls of
 /// all callers on the chosen map turn by turn in the plan's order, closes the map, and prints the answers and the contents. The
-/// runner is given one future, which polls the calls. It tells how it ended by a status, and by a line on `errs` where the status
+/// runner is given one future, which polls the calls. Where the first word is `places`, the other words say the settings, and it prints
+/// the certificate of the run in place of the answers and the contents: its log, and each caller's calls with their places. To that
+/// `pp_check::check` says yes (`laws::certificates_are_right`). It tells how it ended by a status, and by a line on `errs` where the status
 /// isn't 0.
 pub fn polled<R: Wait + RandomSource + AllocGlobal, X: Runner, S: Source, K: Sink, E: Sink>(
     rt: &R,

@@ -12,12 +12,12 @@ ghost use Rattle.pp_poll.specs.Parts.{IsChosenToPoll, fault_way};
 ghost use Rattle.pp_poll.specs.Polled.{Cause, HasInput};
 
 use crate::input::Input;
+use crate::printing::show;
 use crate::ways::PolledWay;
 use pp_devices::Way;
 use pp_model::{Answer, Closed, MapCalls};
 use pp_outside::Sink;
 use pp_planned::{PlannedFault, run_by_plan};
-use pp_replay::printing::finish;
 use pp_schedule::Runner;
 use pp_words::Settings;
 use std::alloc::{AllocGlobal, Global};
@@ -33,13 +33,14 @@ pub struct Shown<W> {
 }
 
 /// Makes the calls of this input by its plan on a map that has just started with these passes, closes it, and prints the answers and
-/// the contents.
+/// the contents, or with places the certificate.
 pub fn run_shown<R: Wait + RandomSource + AllocGlobal, X: Runner, M: MapCalls + Drop, K: Sink>(
     rt: &R,
     alloc: Global,
     runner: &mut X,
     chosen: M,
     passes: Vec<M::Pass>,
+    places: bool,
     settings: Settings,
     input: Input,
     sink: &mut K,
@@ -59,7 +60,7 @@ where
     requires room { HaveRoom (views_of M.pass_view passes.items) (map (λ v. v.items) input.lists.items) }
     ensures { (words : List (List ℕ)) → (before : Device) → (after : Device) → settings_of words ≡ Some settings
         → HasInput settings.make settings.callers before after (map (λ v. v.items) input.lists.items) input.plan.items
-        → Cause result.way words
+        → Cause result.way places words
         (world before (device (K.written sink.old) (K.faults sink.old))) (world after (device (K.written sink.new) (K.faults sink.new)))
         (X.faults runner.old) (X.faults runner.new) (map (λ v. v.items) result.answers.items) (shown_run M.run_view result.closed) }
 {
@@ -77,11 +78,14 @@ where
         Ok(planned) => planned,
         Err(fault) => return without_closing(alloc, way_of(fault)),
     };
-    let way = finish(
+    let way = show(
         alloc,
         sink,
+        places,
         settings.make,
+        &planned.lists,
         &planned.ran.answers,
+        &planned.marks,
         planned.ran.closed.contents(),
     );
     Shown {

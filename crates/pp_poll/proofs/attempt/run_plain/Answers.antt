@@ -25,7 +25,7 @@ overflow_cast-calls g c =
 
 pub run_shown-shown-requires-clause-chosen : goal.run_shown-shown-requires-clause-chosen
 run_shown-shown-requires-clause-chosen g c = rw c.in-Ok.ensures.sizes (chosen_to_poll c.args.settings plain_meaning
-    (plain_sizes c.args.settings.records)
+    (plain_sizes c.args.settings.records) c.requires.within
     (sym (ap meaning_of c.requires.plain)) (plain_sized c.args.settings c.requires.within c.requires.plain))
 
 pub run_shown-shown-requires-clause-shares : goal.run_shown-shown-requires-clause-shares
@@ -34,11 +34,11 @@ run_shown-shown-requires-clause-shares g c = rw c.in-Ok-from_array.ensures.items
 
 pub returns-in_default : goal.returns-in_default
 returns-in_default g c = λ words before after said_by input.
-    refused words c.args.settings _ _ before after _ _ _ _ _ _ said_by input c.without_run.ensures.0
+    refused c.args.places words c.args.settings _ _ before after _ _ _ _ _ _ said_by input c.without_run.ensures.0
 
 pub returns-in_default-from_array : goal.returns-in_default-from_array
 returns-in_default-from_array g c = λ words before after said_by input.
-    refused words c.args.settings _ _ before after _ _ _ _ _ _ said_by input c.without_run-in_default-from_array.ensures.0
+    refused c.args.places words c.args.settings _ _ before after _ _ _ _ _ _ said_by input c.without_run-in_default-from_array.ensures.0
 
 pub returns : goal.returns
 returns g c = λ words before after said_by input. rw c.kept_plain.ensures (c.run_shown-shown.ensures words before after said_by input)

@@ -9,7 +9,7 @@ use Rattle.pp_poll.proofs.attempt.run_table.Goals as goal
 
 pub run_shown-shown-requires-clause-chosen : goal.run_shown-shown-requires-clause-chosen
 run_shown-shown-requires-clause-chosen g c = rw c.in-Ok.ensures.sizes (chosen_to_poll c.args.settings list_meaning
-    (map_sizes (table_sizes c.args.settings.callers c.args.settings.records c.args.buckets))
+    (map_sizes (table_sizes c.args.settings.callers c.args.settings.records c.args.buckets)) c.requires.within
     (table_meant c.args.settings c.args.buckets c.requires.table) (table_sized c.args.settings c.args.buckets c.requires.table))
 
 pub run_shown-shown-requires-clause-passes : goal.run_shown-shown-requires-clause-passes
@@ -29,7 +29,7 @@ run_shown-shown-requires-clause-room g c =
 
 pub returns-in_default : goal.returns-in_default
 returns-in_default g c = λ words before after said_by input.
-    refused words c.args.settings _ _ before after _ _ _ _ _ _ said_by input c.without_run.ensures.0
+    refused c.args.places words c.args.settings _ _ before after _ _ _ _ _ _ said_by input c.without_run.ensures.0
 
 pub returns : goal.returns
 returns g c = λ words before after said_by input. rw c.kept_table.ensures (c.run_shown-shown.ensures words before after said_by input)

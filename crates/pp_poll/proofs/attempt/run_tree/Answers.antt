@@ -10,7 +10,7 @@ use Rattle.pp_poll.proofs.attempt.run_tree.Goals as goal
 
 pub run_shown-shown-requires-clause-chosen : goal.run_shown-shown-requires-clause-chosen
 run_shown-shown-requires-clause-chosen g c = rw c.in-Ok.ensures.sizes (chosen_to_poll c.args.settings tree_meaning
-    (map_sizes (tree_sizes c.args.settings.callers c.args.settings.records)) (sym (ap meaning_of c.requires.tree))
+    (map_sizes (tree_sizes c.args.settings.callers c.args.settings.records)) c.requires.within (sym (ap meaning_of c.requires.tree))
     (tree_sized c.args.settings c.requires.tree))
 
 pub run_shown-shown-requires-clause-passes : goal.run_shown-shown-requires-clause-passes
@@ -30,7 +30,7 @@ run_shown-shown-requires-clause-room g c =
 
 pub returns-in_default : goal.returns-in_default
 returns-in_default g c = λ words before after said_by input.
-    refused words c.args.settings _ _ before after _ _ _ _ _ _ said_by input c.without_run.ensures.0
+    refused c.args.places words c.args.settings _ _ before after _ _ _ _ _ _ said_by input c.without_run.ensures.0
 
 pub returns : goal.returns
 returns g c = λ words before after said_by input. rw c.kept_tree.ensures (c.run_shown-shown.ensures words before after said_by input)
