@@ -145,40 +145,6 @@ fn a_line_about_an_error_is_cut_where_its_sink_fails(rt: HostRuntime) -> Result<
     Ok(())
 }
 
-/// Words before reading, reading before the trace, and writing last.
-#[test]
-fn the_first_of_two_causes_decides(rt: HostRuntime) -> Result<(), Fail> {
-    let unread = Devices {
-        failing_reads: &[1],
-        failing_writes: &[1],
-        ..SOUND
-    };
-    let unwritten = Devices {
-        failing_writes: &[1],
-        ..SOUND
-    };
-    let full: &[u8] =
-        b"0 insert 1 1\n0 insert 2 2\n0 insert 3 3\n0 insert 4 4\n0 insert 5 5\n0 insert 6 6\n0 insert 7 7\n0 insert 8 8\n0 insert 9 9\n";
-    for line in MAPS {
-        let refused = format!(in rt.alloc(); "{line} --callers 0")?;
-        let small = format!(in rt.alloc(); "{line} --records 8")?;
-        let rows: [(&str, &Devices, &[u8], u8, &[u8]); 5] = [
-            (&refused, &unread, b"0", 1, b"words: refused\n"),
-            (line, &unread, b"0", 3, b"read: failed\n"),
-            (line, &unwritten, b"0", 2, b"trace: line 1: word\n"),
-            (&small, &unwritten, full, 4, b"write: failed\n"),
-            (&small, &unread, full, 3, b"read: failed\n"),
-        ];
-        for (words, devices, trace, status, errs) in rows {
-            let got = replayed(&rt, rt.alloc(), words, trace, devices, &NoGate)?;
-            assert_eq!(rt; got.status, status, "{words}");
-            assert_eq!(rt; got.sink.len(), 0, "{words}");
-            assert_eq!(rt; got.errs.as_slice(), errs, "{words}");
-        }
-    }
-    Ok(())
-}
-
 /// So many line feeds.
 fn feeds(alloc: Global, count: usize) -> Result<Vec<u8>, Fail> {
     Ok(vec![in alloc; 10u8; count]?)
