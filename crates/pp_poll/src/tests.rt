@@ -1,7 +1,6 @@
 //! Replays by a plan, as worked by hand.
 
 use crate::{BlockOn, NoRunner, Runner, polled};
-use pp_check::{Verdict, check};
 use pp_outside::{MemSink, MemSource};
 use std::alloc::{AllocGlobal, Global};
 use std::random::RandomSource;
@@ -113,54 +112,6 @@ fn a_runner_fails(rt: HostRuntime) -> Result<(), Fail> {
     Ok(())
 }
 
-const LIST_CERTIFICATE: &[u8] =
-    b"certificate 1\nchange 1 1 insert 10 1\nchange 1 2 insert 20 2\nchange 1 3 insert 30 3\nchange 1 4 remove 20\nsaid 0 3 get 30 value 3\nsaid 1 1 insert 10 1 added\nsaid 1 2 insert 20 2 added\nsaid 1 3 insert 30 3 added\nsaid 1 4 remove 20 took 2\nend\n";
-
-const TREE_CERTIFICATE: &[u8] =
-    b"certificate 1\nchange 1 1 insert 40 4\nchange 1 2 insert 30 3\nchange 1 3 remove 40\nchange 1 4 remove 30\nsaid 0 2 get 30 value 3\nsaid 1 1 insert 40 4 added\nsaid 1 2 insert 30 3 added\nsaid 1 3 remove 40 took 4\nsaid 1 4 remove 30 took 3\nend\n";
-
-// Caller 1 is passed over once its calls are answered.
-const LONGER: &[u8] = b"0 get 5\n1 insert 5 50\n0 get 5\nschedule\n1 1000\n0 1000\n1 1000\n";
-
-const LONGER_CERTIFICATE: &[u8] =
-    b"certificate 1\nchange 1 1 insert 5 50\nsaid 0 1 get 5 value 50\nsaid 0 1 get 5 value 50\nsaid 1 1 insert 5 50 added\nend\n";
-
-// The turns that the plan doesn't make are made by rising callers: caller 0 looks before caller 1 inserts.
-const SHORTER: &[u8] = b"0 get 5\n1 insert 5 50\n1 remove 6\nschedule\n1 1\n";
-
-const SHORTER_CERTIFICATE: &[u8] =
-    b"certificate 1\nchange 1 1 insert 5 50\nsaid 0 0 get 5 absent\nsaid 1 1 insert 5 50 added\nsaid 1 1 remove 6 absent\nend\n";
-
-// What was written with `places` is this certificate, and the checker says yes to it.
-#[test]
-fn certificates_are_printed(rt: HostRuntime) -> Result<(), Fail> {
-    let rows: [(&str, &[u8], &[u8]); 5] = [
-        ("places --map list --callers 2", LIST, LIST_CERTIFICATE),
-        ("places --map tree --callers 2", TREE, TREE_CERTIFICATE),
-        ("places --map hash --callers 2", LONGER, LONGER_CERTIFICATE),
-        (
-            "places --map tree --callers 2",
-            SHORTER,
-            SHORTER_CERTIFICATE,
-        ),
-        (
-            "places --map plain",
-            b"0 insert 7 70\n0 get 7\nschedule\n0 1\n",
-            b"certificate 1\nchange 0 1 insert 7 70\nsaid 0 1 insert 7 70 added\nsaid 0 1 get 7 value 70\nend\n",
-        ),
-    ];
-    for (line, input, certificate) in rows {
-        let ended = replayed(&rt, rt.alloc(), line, &mut BlockOn::new(), input)?;
-        assert_eq!(rt; ended.sink.as_slice(), certificate);
-        assert_eq!(rt; ended.status, 0);
-        let Ok(verdict) = check(rt.alloc(), certificate) else {
-            panic!(rt; "no memory");
-        };
-        assert_eq!(rt; verdict, Verdict::Yes);
-    }
-    Ok(())
-}
-
 // The other words are those of a replay without places, and the plan's faults are too.
 #[test]
 fn places_stands_first(rt: HostRuntime) -> Result<(), Fail> {
@@ -180,74 +131,6 @@ fn places_stands_first(rt: HostRuntime) -> Result<(), Fail> {
         assert_eq!(rt; ended.errs.as_slice(), errs);
         assert_eq!(rt; ended.sink.len(), 0);
         assert_eq!(rt; ended.status, status);
-    }
-    Ok(())
-}
-
-// The get of 25 stands on the inner record 20 while that is detached with the leaf 10. Behind it stands the inner record 30, whose left
-// leaf 20 gives way to another inner record 20 when 15 is put in. That key isn't above the one where the get went right.
-const OUTSIDE: &[u8] =
-    b"1 insert 10 1\n1 insert 20 2\n1 insert 30 3\n0 get 25\n1 remove 10\n1 insert 15 5\nschedule\n1 15\n0 4\n1 1000\n";
-
-// The same without the last insert: the get loses no turn by the detached record alone.
-const INSIDE: &[u8] =
-    b"1 insert 10 1\n1 insert 20 2\n1 insert 30 3\n0 get 25\n1 remove 10\nschedule\n1 15\n0 4\n1 1000\n";
-
-const OUTSIDE_CHANGES: &[u8] =
-    b"certificate 1\nchange 1 1 insert 10 1\nchange 1 2 insert 20 2\nchange 1 3 insert 30 3\nchange 1 4 remove 10\nchange 1 5 insert 15 5\n";
-
-const OUTSIDE_CALLS: &[u8] =
-    b"said 1 1 insert 10 1 added\nsaid 1 2 insert 20 2 added\nsaid 1 3 insert 30 3 added\nsaid 1 4 remove 10 took 1\nsaid 1 5 insert 15 5 added\nend\n";
-
-const INSIDE_CERTIFICATE: &[u8] =
-    b"certificate 1\nchange 1 1 insert 10 1\nchange 1 2 insert 20 2\nchange 1 3 insert 30 3\nchange 1 4 remove 10\nsaid 0 3 get 25 absent\nsaid 1 1 insert 10 1 added\nsaid 1 2 insert 20 2 added\nsaid 1 3 insert 30 3 added\nsaid 1 4 remove 10 took 1\nend\n";
-
-/// Three texts, one behind the other.
-fn joined(alloc: Global, first: &[u8], second: &[u8], third: &[u8]) -> Result<Vec<u8>, Fail> {
-    let mut text = first.to_vec(alloc)?;
-    text.extend_from_slice(second)?;
-    text.extend_from_slice(third)?;
-    Ok(text)
-}
-
-#[test]
-fn a_get_comes_to_a_key_out_of_its_bounds(rt: HostRuntime) -> Result<(), Fail> {
-    let alloc = rt.alloc();
-    let begun_again = joined(
-        alloc,
-        OUTSIDE_CHANGES,
-        b"said 0 3 get 25 absent\n",
-        OUTSIDE_CALLS,
-    )?;
-    let given_up = joined(alloc, OUTSIDE_CHANGES, b"", OUTSIDE_CALLS)?;
-    let rows: [(&str, &[u8], &[u8], u8); 3] = [
-        (
-            "places --map tree --callers 2",
-            OUTSIDE,
-            begun_again.as_slice(),
-            0,
-        ),
-        (
-            "places --map tree --callers 2 --races 1",
-            OUTSIDE,
-            given_up.as_slice(),
-            6,
-        ),
-        (
-            "places --map tree --callers 2 --races 1",
-            INSIDE,
-            INSIDE_CERTIFICATE,
-            0,
-        ),
-    ];
-    for (line, input, certificate, status) in rows {
-        let ended = replayed(&rt, alloc, line, &mut BlockOn::new(), input)?;
-        assert_eq!(rt; ended.sink.as_slice(), certificate);
-        assert_eq!(rt; ended.status, status);
-        let Ok(verdict) = check(alloc, ended.sink.as_slice()) else {
-            panic!(rt; "no memory");
-        };
-        assert_eq!(rt; verdict, Verdict::Yes);
     }
     Ok(())
 }
