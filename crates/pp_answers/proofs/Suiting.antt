@@ -1,5 +1,5 @@
 -- What a call answers suits it.
-use Rattle.std.proofs.Common.{◌≡◌, ℕ, zero, suc, ◌+◌, Bool, true, false, cond, List, [], ◌∷◌, ◌++◌, length, Option, Some, None}
+use Rattle.std.proofs.Common.{◌≡◌, ℕ, ◌+◌, Bool, true, false, cond, List, [], ◌∷◌, ◌++◌, length, Option, Some, None}
 use Rattle.std.proofs.Common.{refl, sym, ap, ◌∙◌, subst}
 use Rattle.std.specs.Prelude.{slice_get, nat_eq}
 use Rattle.pp_model.specs.declared.Answer.{Answer}
@@ -7,13 +7,12 @@ use Rattle.pp_model.specs.declared.Answer.TheVariants.{Said, Full, Lost}
 use Rattle.pp_model.specs.declared.Call.{Call}
 use Rattle.pp_model.specs.declared.Call.TheVariants.{Get, Insert, Remove, Cut}
 use Rattle.pp_model.specs.declared.Change.{Change}
-use Rattle.pp_model.specs.declared.Pair.{Pair}
 use Rattle.pp_model.specs.declared.Placed.{Placed}
 use Rattle.pp_model.specs.declared.Reply.{Reply}
-use Rattle.pp_model.specs.declared.Reply.TheVariants.{Value, Absent, Added, Held, Took, Other}
+use Rattle.pp_model.specs.declared.Reply.TheVariants.{Took, Other}
 use Rattle.pp_model.specs.Calls.{key_of, reply_at, changes}
 use Rattle.pp_model.specs.FiniteMap.{find}
-use Rattle.pp_model.specs.History.{after, Stands, FitsBy}
+use Rattle.pp_model.specs.History.{after, FitsBy}
 use Rattle.pp_model.specs.MapCalls.{AnswersCall, PlacesReply, StandsIn, placed}
 use Rattle.pp_model.specs.Pass.{PassView, MapSizes, Meaning}
 use Rattle.pp_answers.specs.Suits.{Suits, CutSays}
@@ -61,7 +60,7 @@ full_suits call i = subst (λ (c : Call). Suits c Full) (sym i.2) tt
 
 pub suits : (m : Meaning) (z : MapSizes) (call : Call) (budget : ℕ) (before now : PassView) (answer : Answer)
     → AnswersCall m z call budget before now answer → Suits call answer
-suits m z call budget before now (Said r) a = let g = placed_gives call r before now a.says a.stands in
+suits m z call budget before now (Said r) a = let g = placed_gives call r before now a.told.says a.told.stands in
     subst (λ (x : Reply). Suits call (Said x)) g.1 (gives_suits call g.0)
-suits m z call budget before now Full a = full_suits call a.says.inserts
+suits m z call budget before now Full a = full_suits call a.told.says.inserts
 suits m z call budget before now (Lost turns) a = lost_suits call turns

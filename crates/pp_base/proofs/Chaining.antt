@@ -81,7 +81,8 @@ word_target l = let leaf = bit_small l.leaf in let invalid = bit_small l.invalid
 -- what is kept of a chain in hand
 pub in_hand_is : (sides guard first frontier : ℕ) (c : Chain) → IsChainTo sides guard first frontier c
     → in_hand_of c ≡ record { first = first; guard = guard; frontier = frontier }
-in_hand_is sides guard first frontier c k = let begin : first_of 0 c.records ≡ first = ap (λ (l : List ℕ). first_of 0 l) k.chained.records_are in
+in_hand_is sides guard first frontier c k = let begin : first_of 0 c.records ≡ first = ap (λ (l : List ℕ). first_of 0 l)
+    k.chained.records_are in
     λ i. record { first = begin i; guard = k.guard_is i; frontier = k.frontier_is i }
 
 pub chained_first : (sides guard first frontier : ℕ) (c : Chain) → IsChainTo sides guard first frontier c
@@ -291,7 +292,8 @@ module _ {W : Type 0} where
 
 module _ {E A W : Type 0} where
   -- where these lists agree with the new purse, so does all else
-  pub keeping_listed : (sentinels sides : ℕ) (s s' : Seat Unit (SeatView E A W)) (z : Sizes) (number share : ℕ) (walk : List ℕ) (p p' : Purse)
+  pub keeping_listed : (sentinels sides : ℕ) (s s' : Seat Unit (SeatView E A W)) (z : Sizes) (number share : ℕ) (walk : List ℕ)
+      (p p' : Purse)
       → Keeping sentinels sides s number share walk p → IsAlone s'.me → IsPassOf z (known s') → SameHoldings (known s) (known s')
       → p'.free ≡ p.free → p'.taken ≡ p.taken → KeepsRoom p p' → IsListed sides (known s') p'
       → Keeping sentinels sides s' number share walk p'
@@ -314,12 +316,15 @@ module _ {E A W : Type 0} where
     room = room_kept (known s).sizes (known s').sizes p p' same.sizes free keeps_room k.room;
   }
 
-  pub keeping_guarded : (sentinels sides : ℕ) (s s' : Seat Unit (SeatView E A W)) (z : Sizes) (number share : ℕ) (walk : List ℕ) (p : Purse) (j n : ℕ)
+  pub keeping_guarded : (sentinels sides : ℕ) (s s' : Seat Unit (SeatView E A W)) (z : Sizes) (number share : ℕ) (walk : List ℕ) (p : Purse)
+      (j n : ℕ)
       → Keeping sentinels sides s number share walk p → IsAlone s'.me → IsPassOf z (known s') → known s' ≡ with_frontier j n (known s)
       → Keeping sentinels sides s' number share walk (with_guard j n p)
-  keeping_guarded sentinels sides s s' z number share walk p j n k lone pass is = keeping_listed sentinels sides s s' z number share walk p (with_guard j n p)
+  keeping_guarded sentinels sides s s' z number share walk p j n k lone pass is = keeping_listed sentinels sides s s' z number share walk p
+      (with_guard j n p)
       k lone pass
-      record { number = ap (λ q. q.number) is; sizes = ap (λ q. q.sizes) is; owned = ap (λ q. q.owned) is; walk = ap (λ q. q.walk) is } refl refl
+      record { number = ap (λ q. q.number) is; sizes = ap (λ q. q.sizes) is; owned = ap (λ q. q.owned) is; walk = ap (λ q. q.walk) is } refl
+      refl
       record { retired_are = omega arith; chains = omega arith }
       record {
         frontier = ap (λ q. q.frontier) is ∙ ap (λ (l : List ℕ). set l j n) k.frontier;
@@ -330,26 +335,32 @@ module _ {E A W : Type 0} where
         chained = λ c i. k.chained c (subst (λ (l : List Chain). IsIn c l) (ap (λ q. q.chains) is) i);
       }
 
-  pub keeping_invalidated : (sentinels sides : ℕ) (s s' : Seat Unit (SeatView E A W)) (z : Sizes) (number share : ℕ) (walk : List ℕ) (p : Purse)
+  pub keeping_invalidated : (sentinels sides : ℕ) (s s' : Seat Unit (SeatView E A W)) (z : Sizes) (number share : ℕ) (walk : List ℕ)
+      (p : Purse)
       (k n side : ℕ)
       → Keeping sentinels sides s number share walk p → IsAlone s'.me → IsPassOf z (known s')
       → known s' ≡ with_chain k (invalidated n side (chain_at (known s) k)) (known s) → Keeping sentinels sides s' number share walk p
-  keeping_invalidated sentinels sides s s' z number share walk p k n side kept lone pass is = keeping_listed sentinels sides s s' z number share walk p p
+  keeping_invalidated sentinels sides s s' z number share walk p k n side kept lone pass is = keeping_listed sentinels sides s s' z number
+      share walk p p
       kept lone pass
-      record { number = ap (λ q. q.number) is; sizes = ap (λ q. q.sizes) is; owned = ap (λ q. q.owned) is; walk = ap (λ q. q.walk) is } refl refl
+      record { number = ap (λ q. q.number) is; sizes = ap (λ q. q.sizes) is; owned = ap (λ q. q.owned) is; walk = ap (λ q. q.walk) is } refl
+      refl
       record { retired_are = omega arith; chains = omega arith }
       record {
         frontier = ap (λ q. q.frontier) is ∙ kept.frontier;
         retired_are = subst (λ (l : List ℕ). take (length l) p.retired.items ≡ l) (ap (λ q. q.retired) (sym is)) kept.retired_are;
-        retired_count = subst (λ (l : List ℕ). length p.retired.items ≡ length l + p.spent) (ap (λ q. q.retired) (sym is)) kept.retired_count;
+        retired_count = subst (λ (l : List ℕ). length p.retired.items ≡ length l + p.spent) (ap (λ q. q.retired) (sym is))
+            kept.retired_count;
         chains = ap (λ q. map in_hand_of q.chains) is
             ∙ (kept_set (known s).chains k (invalidated n side (chain_at (known s) k)) refl ∙ kept.chains);
         few = kept.few;
-        chained = λ d i. chained_set (known s).chains k n side kept.chained d (subst (λ (l : List Chain). IsIn d l) (ap (λ q. q.chains) is) i);
+        chained = λ d i. chained_set (known s).chains k n side kept.chained d (subst (λ (l : List Chain). IsIn d l) (ap (λ q. q.chains) is)
+            i);
       }
 
   -- The oldest chain is retired: its numbers stood behind the retired ones.
-  pub keeping_retired : (sentinels sides : ℕ) (s s' : Seat Unit (SeatView E A W)) (z : Sizes) (number share : ℕ) (walk : List ℕ) (p p' : Purse)
+  pub keeping_retired : (sentinels sides : ℕ) (s s' : Seat Unit (SeatView E A W)) (z : Sizes) (number share : ℕ) (walk : List ℕ)
+      (p p' : Purse)
       → Keeping sentinels sides s number share walk p → IsAlone s'.me → IsPassOf z (known s')
       → spent_numbers (known s) p ≡ (chain_at (known s) 0).records → LetGo (chain_at (known s) 0).guard p p'
       → known s' ≡ retiring (chain_at (known s) 0) (known s) → Keeping sentinels sides s' number share walk p'
@@ -360,11 +371,17 @@ module _ {E A W : Type 0} where
       ∙ (ap (λ (l : List ℕ). l ++ drop (length (known s).retired) p.retired.items) k.retired_are
       ∙ (ap (λ (l : List ℕ). (known s).retired ++ l) spent ∙ ap (λ q. q.retired) (sym is)))) in
       keeping_listed sentinels sides s s' z number share walk p p' k lone pass
-      record { number = ap (λ q. q.number) is; sizes = ap (λ q. q.sizes) is; owned = ap (λ q. q.owned) is; walk = ap (λ q. q.walk) is } gone.free gone.taken
-      record { retired_are = let e = ap (λ v. vec_capacity v) gone.retired_are in omega (arith, e); chains = let e = gone.room in omega (arith, e) }
+      record { number = ap (λ q. q.number) is; sizes = ap (λ q. q.sizes) is; owned = ap (λ q. q.owned) is; walk = ap (λ q. q.walk) is }
+      gone.free gone.taken
+      record {
+        retired_are = let e = ap (λ v. vec_capacity v) gone.retired_are in omega (arith, e);
+        chains = let e = gone.room in
+            omega (arith, e);
+      }
       record {
         frontier = ap (λ q. q.frontier) is ∙ (ap (λ (l : List ℕ). set l c.guard 0) k.frontier ∙ sym gone.frontier);
-        retired_are = subst (λ (l : List ℕ). take (length (known s').retired) l ≡ (known s').retired) (sym all) (take-length (known s').retired);
+        retired_are = subst (λ (l : List ℕ). take (length (known s').retired) l ≡ (known s').retired) (sym all)
+            (take-length (known s').retired);
         retired_count = let n : length p'.retired.items ≡ length (known s').retired = ap (λ (l : List ℕ). length l) all in
             let none : p'.spent ≡ 0 = gone.spent in omega arith;
         chains = ap (λ q. map in_hand_of q.chains) is
@@ -374,7 +391,8 @@ module _ {E A W : Type 0} where
       }
 
   -- One more chain is in hand, and the shape's part may be another.
-  pub keeping_taken : (sentinels sides : ℕ) (s s' : Seat Unit (SeatView E A W)) (z : Sizes) (number share : ℕ) (walk : List ℕ) (p p' : Purse)
+  pub keeping_taken : (sentinels sides : ℕ) (s s' : Seat Unit (SeatView E A W)) (z : Sizes) (number share : ℕ) (walk : List ℕ)
+      (p p' : Purse)
       (c : Chain) (h : InHand) (own : W)
       → Keeping sentinels sides s number share walk p → IsAlone s'.me → IsPassOf z (known s') → in_hand_of c ≡ h
       → IsChained sides (first_of 0 c.records) c → length (known s).chains < 4
@@ -382,7 +400,8 @@ module _ {E A W : Type 0} where
       → Keeping sentinels sides s' number share walk p'
   keeping_taken sentinels sides s s' z number share walk p p' c h own k lone pass kept chained few took is =
       keeping_listed sentinels sides s s' z number share walk p p' k lone pass
-      record { number = ap (λ q. q.number) is; sizes = ap (λ q. q.sizes) is; owned = ap (λ q. q.owned) is; walk = ap (λ q. q.walk) is } took.free took.taken
+      record { number = ap (λ q. q.number) is; sizes = ap (λ q. q.sizes) is; owned = ap (λ q. q.owned) is; walk = ap (λ q. q.walk) is }
+      took.free took.taken
       record { retired_are = let e = ap (λ v. vec_capacity v) took.retired_are in omega (arith, e); chains = took.room }
       record {
         frontier = ap (λ q. q.frontier) is ∙ (k.frontier ∙ sym took.frontier);
@@ -404,7 +423,8 @@ module _ {E A W : Type 0} where
       }
 
   -- It is where the link was as it is expected.
-  pub keeping_exchanged : (sentinels sides : ℕ) (s s' : Seat Unit (SeatView E A W)) (z : Sizes) (number share : ℕ) (walk : List ℕ) (p p' : Purse)
+  pub keeping_exchanged : (sentinels sides : ℕ) (s s' : Seat Unit (SeatView E A W)) (z : Sizes) (number share : ℕ) (walk : List ℕ)
+      (p p' : Purse)
       (c : Chain) (h : InHand) (frozen : ℕ → Bool) (at : Place) (side : Side) (first new n place : ℕ)
       → Keeping sentinels sides s number share walk p → s'.me.1 ≡ [] → IsPassOf z (known s') → in_hand_of c ≡ h
       → IsChained sides (first_of 0 c.records) c → length (known s).chains < 4

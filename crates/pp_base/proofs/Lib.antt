@@ -12,3 +12,4 @@ pub mod Shelving
 pub mod Seated
 pub mod Parted
 pub mod Reclaiming
+pub mod Calm

@@ -36,7 +36,8 @@ module _ {E A W : Type 0} (sides : ℕ) (opens : Sizes → List ℕ) (addition :
       (λ _ m'. (m'.1 ≡ []) × MadeQuietStep announce_step place n n (with_walk i (naming n) me.0.known) me.0 m'.0)
       (announces sides opens addition alike z slots id place i n me lone lt free at) (λ _ m t. made_alone m t.0 t.1)
 
-  pub clears_on : (forget : ℕ → W → W) → KeptCleared sides addition forget → (i : ℕ) → IsAlone me → i < 5 → place ≡ walk_place z me.0.known.number i
+  pub clears_on : (forget : ℕ → W → W) → KeptCleared sides addition forget → (i : ℕ) → IsAlone me → i < 5 → place ≡ walk_place z
+      me.0.known.number i
       → Allows (Holds sides opens addition z) slots id me place (λ _. 0)
       (λ _ m'. ((m'.1 ≡ []) × MadeQuietStep clear_step place 0 0 (clearing forget i me.0.known) me.0 m'.0) × IsPassOf z m'.0.known)
   clears_on forget clears i lone lt at = telling sides opens addition z slots id me place (λ _. 0)
@@ -95,7 +96,8 @@ module _ {E A W : Type 0} (sides : ℕ) (opens : Sizes → List ℕ) (addition :
       → get_elem? me.0.known.owned k ≡ some d → f < 5
       → place ≡ cell_place z d.number f
       → Allows (Holds sides opens addition z) slots id me place (λ _. x)
-      (λ _ m'. ((m'.1 ≡ []) × MadeQuietStep write_step place x x (with_private k (wrote f x d) me.0.known) me.0 m'.0) × IsPassOf z m'.0.known)
+      (λ _ m'. ((m'.1 ≡ []) × MadeQuietStep write_step place x x (with_private k (wrote f x d) me.0.known) me.0 m'.0)
+      × IsPassOf z m'.0.known)
   writes_on alike k f x d lone at four is = telling sides opens addition z slots id me place (λ _. x)
       (λ _ m'. (m'.1 ≡ []) × MadeQuietStep write_step place x x (with_private k (wrote f x d) me.0.known) me.0 m'.0)
       (writes_private sides opens addition alike z slots id place k f x d me lone at four is) (λ _ m t. made_alone m t.0 t.1)

@@ -121,7 +121,8 @@ module _ {E A W : Type 0} where
   made_single s v w one = (w, (one, refl))
 
   -- one step more
-  pub made_more : (steps : List NamedStep) (s : NamedStep) (u v w : SeatView E A W) → Made steps u v → MadeOne s v w → Made (steps ++ s ∷ []) u w
+  pub made_more : (steps : List NamedStep) (s : NamedStep) (u v w : SeatView E A W) → Made steps u v → MadeOne s v w
+      → Made (steps ++ s ∷ []) u w
   made_more steps s u v w made one = made_append steps (s ∷ []) u v w made (made_single s v w one)
 
   -- a step that frees no record and leaves the word that it found or stored

@@ -85,7 +85,8 @@ once_members (c ∷ cs) status p guards each state = once_append (λ k. k) c.rec
     let there : status x ≡ in_hand p found.0.guard = ap status same ∙ state found.0 y (in_later found.0 c cs found.1.0) found.1.1 in
     once_head guard_of c cs guards found.0 found.1.0 (ap hand_guard (sym there ∙ here)))
 
-module _ {E A W : Type 0} (sides : ℕ) (z : Sizes) (words : List ℕ) (g : PoolState E A W) (p : ℕ) (b : Base sides z words g) (low : p < z.passes) where
+module _ {E A W : Type 0} (sides : ℕ) (z : Sizes) (words : List ℕ) (g : PoolState E A W) (p : ℕ) (b : Base sides z words g)
+    (low : p < z.passes) where
   once_chains : Once (members_of (g.of p).chains)
   once_chains = once_members (g.of p).chains g.status p (b.chains.once p low) (λ c i. b.chains.members_once p c low i)
       (λ c n i m. (b.chains.members p n c low i m).1)
@@ -114,7 +115,8 @@ module _ {E A W : Type 0} (sides : ℕ) (z : Sizes) (words : List ℕ) (g : Pool
       (in_either y (g.of p).retired (members_of (g.of p).chains) j))
 
   pub numbers_fit : length (numbers_of (g.of p)) ≤ z.records
-  numbers_fit = bounded z.records (numbers_of (g.of p)) once_numbers (λ m i. ⊎_elim (λ (o : IsIn m (owned_numbers (g.of p))). (owned_is m o).0)
+  numbers_fit = bounded z.records (numbers_of (g.of p)) once_numbers
+      (λ m i. ⊎_elim (λ (o : IsIn m (owned_numbers (g.of p))). (owned_is m o).0)
       (λ (rest : IsIn m ((g.of p).retired ++ members_of (g.of p).chains)). ⊎_elim
       (λ (r : IsIn m (g.of p).retired). (retired_is m r).0)
       (λ (h : IsIn m (members_of (g.of p).chains)). (hand_is m h).0) (in_either m (g.of p).retired (members_of (g.of p).chains) rest))

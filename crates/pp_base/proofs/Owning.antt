@@ -67,7 +67,8 @@ module _ {E A W : Type 0} (sides : ℕ) (opens : Sizes → List ℕ) (addition :
       (r.0, r.1, r.2, r.3, ((r.4.0.0, record { index = o.index; was = o.was; at = o.at; number_is = o.number_is; made = r.4.0.1 }), r.4.1))
 
 module _ {E A W : Type 0} where
-  pub keeping_wrote : (sentinels sides : ℕ) (s s' : Seat Unit (SeatView E A W)) (z : Sizes) (number share : ℕ) (walk : List ℕ) (p : Purse) (n f x place : ℕ)
+  pub keeping_wrote : (sentinels sides : ℕ) (s s' : Seat Unit (SeatView E A W)) (z : Sizes) (number share : ℕ) (walk : List ℕ) (p : Purse)
+      (n f x place : ℕ)
       → Keeping sentinels sides s number share walk p → s'.me.1 ≡ [] → IsPassOf z (known s') → WroteField n f x place s.me.0 s'.me.0
       → Keeping sentinels sides s' number share walk p
   keeping_wrote sentinels sides s s' z number share walk p n f x place k none pass w = let is = made_known s'.me w.made in
@@ -84,4 +85,5 @@ module _ {E A W : Type 0} where
 
   pub same_wrote : (s s' : Seat Unit (SeatView E A W)) (n f x place : ℕ) → WroteField n f x place s.me.0 s'.me.0 → s'.table_id ≡ s.table_id
       → IsSame s s'
-  same_wrote s s' n f x place w table = same_known s s' (with_private w.index (wrote f x w.was) (known s)) (made_known s'.me w.made) refl refl table
+  same_wrote s s' n f x place w table = same_known s s' (with_private w.index (wrote f x w.was) (known s)) (made_known s'.me w.made) refl
+      refl table

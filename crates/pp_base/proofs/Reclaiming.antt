@@ -35,39 +35,41 @@ room_parted z y p free retired same more as_was room = let records : y.records �
     }
 
 module _ {E A W : Type 0} where
-  pub keeping_reclaimed : (sentinels sides : ℕ) (s s' : Seat Unit (SeatView E A W)) (z : Sizes) (number share : ℕ) (walk : List ℕ) (p p' : Purse)
+  pub keeping_reclaimed : (sentinels sides : ℕ) (s s' : Seat Unit (SeatView E A W)) (z : Sizes) (number share : ℕ) (walk : List ℕ)
+      (p p' : Purse)
       (found : ℕ) (freed : List PrivateRecord)
       → Keeping sentinels sides s number share walk p → IsAlone s'.me → IsPassOf z (known s') → known s' ≡ reclaimed found freed (known s)
       → p'.free.items ≡ p.free.items ++ map number_of freed → p'.retired.items ≡ (known s').retired → p'.spent ≡ 0
       → p'.frontier ≡ p.frontier → p'.chains.items ≡ p.chains.items → p'.taken ≡ p.taken → HasRoom (known s').sizes p'
       → Keeping sentinels sides s' number share walk p'
-  keeping_reclaimed sentinels sides s s' z number share walk p p' found freed k lone pass is free retired none frontier chains taken room = record {
-    lone = lone;
-    pass = subst (λ (y : Sizes). IsPassOf y (known s')) (sym pass.sizes) pass;
-    number_is = ap (λ q. q.number) is ∙ k.number_is;
-    share_is = k.share_is ∙ ap (λ q. share_of sentinels q.sizes number) (sym is);
-    walk_is = ap (λ q. map named_of q.walk) is ∙ k.walk_is;
-    frontier = ap (λ q. q.frontier) is ∙ (k.frontier ∙ sym frontier);
-    free = λ n. let was = k.free n in
-        let mine : times n p'.free.items ≡ times n p.free.items + times n (map number_of freed) =
-        ap (times n) free ∙ times_append n p.free.items (map number_of freed) in
-        let all : times n (map number_of (known s').owned) ≡ times n (map number_of (known s).owned) + times n (map number_of freed) =
-        ap (λ q. times n (map number_of q.owned)) is ∙ (ap (times n) (map-append number_of (known s).owned freed)
-        ∙ times_append n (map number_of (known s).owned) (map number_of freed)) in omega (arith, was, mine, all);
-    retired_are = take_all (length (known s').retired) p'.retired.items (omega (arith, ap (λ (l : List ℕ). length l) retired)) ∙ retired;
-    retired_count = omega (arith, ap (λ (l : List ℕ). length l) retired, none);
-    chains = ap (λ q. map in_hand_of q.chains) is ∙ (k.chains ∙ sym chains);
-    few = subst (λ (l : List InHand). length l ≤ 4) (sym chains) k.few;
-    counted = let was = k.counted in
-        let all : length (known s').owned ≡ length (known s).owned + length freed =
-        ap (λ q. length q.owned) is ∙ length-append (known s).owned freed in
-        let list : length p'.free.items ≡ length p.free.items + length (map number_of freed) =
-        ap (λ (l : List ℕ). length l) free ∙ length-append p.free.items (map number_of freed) in
-        let count : length (map number_of freed) ≡ length freed = length-map freed number_of in
-        omega (arith, was, all, list, count, taken);
-    chained = λ c i. k.chained c (subst (λ (l : List Chain). IsIn c l) (ap (λ q. q.chains) is) i);
-    room = room;
-  }
+  keeping_reclaimed sentinels sides s s' z number share walk p p' found freed k lone pass is free retired none frontier chains taken
+      room = record {
+        lone = lone;
+        pass = subst (λ (y : Sizes). IsPassOf y (known s')) (sym pass.sizes) pass;
+        number_is = ap (λ q. q.number) is ∙ k.number_is;
+        share_is = k.share_is ∙ ap (λ q. share_of sentinels q.sizes number) (sym is);
+        walk_is = ap (λ q. map named_of q.walk) is ∙ k.walk_is;
+        frontier = ap (λ q. q.frontier) is ∙ (k.frontier ∙ sym frontier);
+        free = λ n. let was = k.free n in
+            let mine : times n p'.free.items ≡ times n p.free.items + times n (map number_of freed) =
+            ap (times n) free ∙ times_append n p.free.items (map number_of freed) in
+            let all : times n (map number_of (known s').owned) ≡ times n (map number_of (known s).owned) + times n (map number_of freed) =
+            ap (λ q. times n (map number_of q.owned)) is ∙ (ap (times n) (map-append number_of (known s).owned freed)
+            ∙ times_append n (map number_of (known s).owned) (map number_of freed)) in omega (arith, was, mine, all);
+        retired_are = take_all (length (known s').retired) p'.retired.items (omega (arith, ap (λ (l : List ℕ). length l) retired)) ∙ retired;
+        retired_count = omega (arith, ap (λ (l : List ℕ). length l) retired, none);
+        chains = ap (λ q. map in_hand_of q.chains) is ∙ (k.chains ∙ sym chains);
+        few = subst (λ (l : List InHand). length l ≤ 4) (sym chains) k.few;
+        counted = let was = k.counted in
+            let all : length (known s').owned ≡ length (known s).owned + length freed =
+            ap (λ q. length q.owned) is ∙ length-append (known s).owned freed in
+            let list : length p'.free.items ≡ length p.free.items + length (map number_of freed) =
+            ap (λ (l : List ℕ). length l) free ∙ length-append p.free.items (map number_of freed) in
+            let count : length (map number_of freed) ≡ length freed = length-map freed number_of in
+            omega (arith, was, all, list, count, taken);
+        chained = λ c i. k.chained c (subst (λ (l : List Chain). IsIn c l) (ap (λ q. q.chains) is) i);
+        room = room;
+      }
 
   -- the free list has room for what may be freed
   pub free_fits : (sentinels sides : ℕ) (s : Seat Unit (SeatView E A W)) (number share : ℕ) (walk : List ℕ) (p : Purse)
@@ -76,9 +78,11 @@ module _ {E A W : Type 0} where
   free_fits sentinels sides s number share walk p k none =
       let free = times_length p.free.items (owned_numbers (known s)) k.free in
       let fit = k.pass.fit in let room = k.room.free in
-      let all : length (numbers_of (known s)) ≡ length (owned_numbers (known s)) + length ((known s).retired ++ members_of (known s).chains) =
+      let all : length (numbers_of (known s)) ≡ length (owned_numbers (known s)) + length ((known s).retired ++ members_of
+      (known s).chains) =
       length-append (owned_numbers (known s)) ((known s).retired ++ members_of (known s).chains) in
-      let rest : length ((known s).retired ++ members_of (known s).chains) ≡ length (known s).retired + length (members_of (known s).chains) =
+      let rest : length ((known s).retired ++ members_of (known s).chains) ≡ length (known s).retired + length
+      (members_of (known s).chains) =
       length-append (known s).retired (members_of (known s).chains) in
       let count = k.retired_count in omega (arith, free, fit, room, all, rest, count, none)
 
@@ -89,7 +93,8 @@ module _ {E A W : Type 0} where
       sym (take_all (length (known s).retired) p.retired.items (omega (arith, k.retired_count, none))) ∙ k.retired_are
 
   -- what no hazard word named is what the parting rejects
-  pub gone_are : (sentinels sides : ℕ) (s : Seat Unit (SeatView E A W)) (number share : ℕ) (walk : List ℕ) (p : Purse) (words all : List ℕ) (found : ℕ)
+  pub gone_are : (sentinels sides : ℕ) (s : Seat Unit (SeatView E A W)) (number share : ℕ) (walk : List ℕ) (p : Purse) (words all : List ℕ)
+      (found : ℕ)
       → Keeping sentinels sides s number share walk p → p.spent ≡ 0 → IsPermutation (words ++ found ∷ []) all
       → still (known s) ≡ without_all words (known s).retired → rejected (is_named all) p.retired.items ≡ without found (still (known s))
   gone_are sentinels sides s number share walk p words all found k none moved read =
@@ -97,7 +102,8 @@ module _ {E A W : Type 0} where
       ∙ sym (left_over words all (known s).retired (still (known s)) found moved read)
 
   -- what the parting chooses is what stays retired
-  pub stay_are : (sentinels sides : ℕ) (s s' : Seat Unit (SeatView E A W)) (number share : ℕ) (walk : List ℕ) (p : Purse) (words all : List ℕ)
+  pub stay_are : (sentinels sides : ℕ) (s s' : Seat Unit (SeatView E A W)) (number share : ℕ) (walk : List ℕ) (p : Purse)
+      (words all : List ℕ)
       (found : ℕ) (freed : List PrivateRecord)
       → Keeping sentinels sides s number share walk p → p.spent ≡ 0 → IsPermutation (words ++ found ∷ []) all
       → still (known s) ≡ without_all words (known s).retired

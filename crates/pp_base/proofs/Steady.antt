@@ -47,9 +47,11 @@ module _ {E A W : Type 0} where
     pub frontier : (known s').frontier ≡ (known s).frontier
     pub chains : (known s').chains ≡ (known s).chains
 
-  pub keeping_steady : (sentinels sides : ℕ) (s s' : Seat Unit (SeatView E A W)) (z : Sizes) (number share : ℕ) (walk walk' : List ℕ) (p : Purse)
+  pub keeping_steady : (sentinels sides : ℕ) (s s' : Seat Unit (SeatView E A W)) (z : Sizes) (number share : ℕ) (walk walk' : List ℕ)
+      (p : Purse)
       → Keeping sentinels sides s number share walk p
-      → IsAlone s'.me → IsPassOf z (known s') → SameLists s s' → map named_of (known s').walk ≡ walk' → Keeping sentinels sides s' number share walk' p
+      → IsAlone s'.me → IsPassOf z (known s') → SameLists s s' → map named_of (known s').walk ≡ walk' → Keeping sentinels sides s' number
+      share walk' p
   keeping_steady sentinels sides s s' z number share walk walk' p k lone pass same walk_is = record {
     lone = lone;
     pass = subst (λ (y : Sizes). IsPassOf y (known s')) (sym pass.sizes) pass;
@@ -63,7 +65,8 @@ module _ {E A W : Type 0} where
     chains = ap (λ (l : List Chain). map in_hand_of l) same.chains ∙ k.chains;
     few = k.few;
     counted = let was = k.counted in
-        let count = sym (length-map (known s').owned number_of) ∙ (ap (λ (l : List ℕ). length l) same.owned ∙ length-map (known s).owned number_of) in
+        let count = sym (length-map (known s').owned number_of) ∙ (ap (λ (l : List ℕ). length l) same.owned ∙ length-map (known s).owned
+        number_of) in
         omega (arith, was, count);
     chained = λ c i. k.chained c (subst (λ (l : List Chain). IsIn c l) same.chains i);
     room = subst (λ (y : Sizes). HasRoom y p) (sym same.sizes) k.room;
@@ -96,7 +99,8 @@ module _ {E A W : Type 0} where
   pub keeping_stored : (sentinels sides : ℕ) (s s' : Seat Unit (SeatView E A W)) (z : Sizes) (number share : ℕ) (walk : List ℕ) (p : Purse)
       (i : ℕ) (w : WalkSlot) (own : W)
       → Keeping sentinels sides s number share walk p → IsAlone s'.me → IsPassOf z (known s')
-      → known s' ≡ record (known s) { walk = set (known s).walk i w; own = own } → Keeping sentinels sides s' number share (set walk i w.named) p
+      → known s' ≡ record (known s) { walk = set (known s).walk i w; own = own } → Keeping sentinels sides s' number share
+      (set walk i w.named) p
   keeping_stored sentinels sides s s' z number share walk p i w own k lone pass is = keeping_steady sentinels sides s s' z number share walk
       (set walk i w.named) p k lone pass
       (lists_walk s s' i w own is) (ap (λ q. map named_of q.walk) is ∙ (named_set (known s).walk i w ∙ ap (λ
@@ -107,25 +111,29 @@ module _ {E A W : Type 0} where
       (i : ℕ) (w : WalkSlot)
       → Keeping sentinels sides s number share walk p → IsAlone s'.me → IsPassOf z (known s') → w.named ≡ (slot (known s) i).named
       → known s' ≡ with_walk i w (known s) → Keeping sentinels sides s' number share walk p
-  keeping_learnt sentinels sides s s' z number share walk p i w k lone pass named is = keeping_steady sentinels sides s s' z number share walk walk p k lone pass
+  keeping_learnt sentinels sides s s' z number share walk p i w k lone pass named is = keeping_steady sentinels sides s s' z number share
+      walk walk p k lone pass
       (lists_walk s s' i w (known s).own is) (ap (λ q. map named_of q.walk) is ∙ (named_same (known s).walk i w named ∙ k.walk_is))
 
   -- nothing more is known of it
   pub keeping_idle : (sentinels sides : ℕ) (s s' : Seat Unit (SeatView E A W)) (z : Sizes) (number share : ℕ) (walk : List ℕ) (p : Purse)
       → Keeping sentinels sides s number share walk p → IsAlone s'.me → IsPassOf z (known s') → known s' ≡ known s
       → Keeping sentinels sides s' number share walk p
-  keeping_idle sentinels sides s s' z number share walk p k lone pass is = keeping_steady sentinels sides s s' z number share walk walk p k lone pass
+  keeping_idle sentinels sides s s' z number share walk p k lone pass is = keeping_steady sentinels sides s s' z number share walk walk p k
+      lone pass
       (lists_idle s s' is) (ap (λ q. map named_of q.walk) is ∙ k.walk_is)
 
 module _ {E A W : Type 0} where
   -- the pass has loaded a link, and perhaps learnt it
   pub keeping_loaded : (sentinels sides : ℕ) (s s' : Seat Unit (SeatView E A W)) (z : Sizes) (number share : ℕ) (walk : List ℕ) (p : Purse)
       (frozen : ℕ → Bool) (at : Place) (side : Side) (n : ℕ)
-      → Keeping sentinels sides s number share walk p → IsAlone s'.me → IsPassOf z (known s') → known s' ≡ learning_at frozen at side n (known s)
+      → Keeping sentinels sides s number share walk p → IsAlone s'.me → IsPassOf z (known s') → known s' ≡ learning_at frozen at side n
+      (known s)
       → Keeping sentinels sides s' number share walk p
   keeping_loaded sentinels sides s s' z number share walk p frozen
       (Head h) side n k lone pass is = keeping_idle sentinels sides s s' z number share walk p k lone pass is
-  keeping_loaded sentinels sides s s' z number share walk p frozen (Walk i) side n k lone pass is = by (frozen n && (slot (known s) i).held) is
+  keeping_loaded sentinels sides s s' z number share walk p frozen (Walk i) side n k lone pass is = by (frozen n && (slot (known s) i).held)
+      is
     where
       by : (b : Bool) → known s' ≡ cond b (with_walk i (record (slot (known s) i) {
         learnt = (side_number side, n) ∷ (slot
@@ -139,7 +147,8 @@ module _ {E A W : Type 0} where
       }) k lone pass refl e
 
   -- the pass has loaded a link again, and perhaps holds the record that it leads to
-  pub keeping_confirmed : (sentinels sides : ℕ) (s s' : Seat Unit (SeatView E A W)) (z : Sizes) (number share : ℕ) (walk : List ℕ) (p : Purse)
+  pub keeping_confirmed : (sentinels sides : ℕ) (s s' : Seat Unit (SeatView E A W)) (z : Sizes) (number share : ℕ) (walk : List ℕ)
+      (p : Purse)
       (frozen : ℕ → Bool) (at : Place) (side : Side) (i first n place : ℕ)
       → Keeping sentinels sides s number share walk p → s'.me.1 ≡ [] → IsPassOf z (known s') → (slot (known s) i).named ≡ target first
       → Confirmed i first n place (learning_at frozen at side n (known s)) s.me.0 s'.me.0
@@ -156,7 +165,12 @@ module _ {E A W : Type 0} where
   -- it is the same pass
   pub same_known : (s s' : Seat Unit (SeatView E A W)) (q : PassState W) → known s' ≡ q → q.number ≡ (known s).number
       → q.sizes ≡ (known s).sizes → s'.table_id ≡ s.table_id → IsSame s s'
-  same_known s s' q is number sizes table = record { table_is = table; number = ap (λ q. q.number) is ∙ number; sizes = ap (λ q. q.sizes) is ∙ sizes }
+  same_known s s' q is number sizes table = record {
+    table_is = table;
+    number = ap (λ q. q.number) is ∙ number;
+    sizes = ap (λ q. q.sizes) is
+        ∙ sizes;
+  }
 
   pub same_loaded : (s s' : Seat Unit (SeatView E A W)) (frozen : ℕ → Bool) (at : Place) (side : Side) (n : ℕ)
       → known s' ≡ learning_at frozen at side n (known s)

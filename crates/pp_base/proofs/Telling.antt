@@ -27,7 +27,8 @@ module _ {E A W : Type 0} where
   pub keyed : (sides : ℕ) (opens : Sizes → List ℕ) (addition : Sizes → List ℕ → PoolState E A W
       → Type 0) (z key : Sizes) (slots id : ℕ) (me : Me Unit (SeatView E A W))
       (place : ℕ) (change : ℕ → ℕ) (then : ℕ → Me Unit (SeatView E A W) → Type 0) → key ≡ z → slots ≡ 0
-      → Allows (Holds sides opens addition z) 0 id me place change then → Allows (Holds sides opens addition key) slots id me place change then
+      → Allows (Holds sides opens addition z) 0 id me place change then → Allows (Holds sides opens addition key) slots id me place change
+      then
   keyed sides opens addition z key slots id me place change then is none a = subst (λ (k : Sizes). Allows
       (Holds sides opens addition k) slots id me place change then) (sym is)
       (subst (λ (n : ℕ). Allows (Holds sides opens addition z) n id me place change then) (sym none) a)
@@ -54,14 +55,16 @@ module _ {E A W : Type 0} where
     within = b.within;
     five = subst (λ (v : PassState W). length v.walk ≡ 5) is (b.hazards.five p low);
     four = subst (λ (v : PassState W). length v.frontier ≡ 4) is (b.hazards.four p low);
-    held = λ i lt. subst (λ (v : PassState W). (slot v i).held ≡ true → IsNumber z (slot v i).named) is (λ on. (b.hazards.held p i low lt on).number);
+    held = λ i lt. subst (λ (v : PassState W). (slot v i).held ≡ true → IsNumber z (slot v i).named) is
+        (λ on. (b.hazards.held p i low lt on).number);
     owned = λ d. subst (λ (v : PassState W). IsIn d v.owned → IsNumber z d.number) is (λ i. (b.numbers.owned_to p d low i).0);
     owned_once = subst (λ (v : PassState W). OnceBy number_of v.owned) is (b.numbers.owned_once p low);
     retired_are = λ n. subst (λ (v : PassState W). IsIn n v.retired → IsNumber z n) is (λ i. (b.numbers.retired_to p n low i).0);
     retired_once = subst (λ (v : PassState W). Once v.retired) is (b.numbers.retired_once p low);
     left = λ n. subst (λ (v : PassState W). IsIn n v.scan.left → IsNumber z n) is (λ i. (b.scans.left p n low i).0);
     guard = λ c. subst (λ (v : PassState W). IsIn c v.chains → c.guard < 4) is (b.chains.guard p c low);
-    members = λ c n. subst (λ (v : PassState W). IsIn c v.chains → IsIn n c.records → IsNumber z n) is (λ i m. (b.chains.members p n c low i m).0);
+    members = λ c n. subst (λ (v : PassState W). IsIn c v.chains → IsIn n c.records → IsNumber z n) is
+        (λ i m. (b.chains.members p n c low i m).0);
     fit = subst (λ (v : PassState W). length (numbers_of v) ≤ z.records) is (numbers_fit sides z words g p b low);
   }
 
@@ -80,7 +83,8 @@ module _ {E A W : Type 0} where
       let tied = (after.ties.each_seat id w (set_here s.views id w (at_below s.views id me.0 at))).each w.known here in
       (w, r.1, r.2, after, (said, pass_of sides z _ after.pool w.known after.base tied.number tied.is tied.sizes))
 
-  module _ {kind place word left : ℕ} {changes : List E} {placed : List A} {q : PassState W} {v : SeatView E A W} (m : Me Unit (SeatView E A W)) where
+  module _ {kind place word left : ℕ} {changes : List E} {placed : List A} {q : PassState W} {v : SeatView E A W}
+      (m : Me Unit (SeatView E A W)) where
     pub made_alone : m.1 ≡ [] → MadeStep kind place word left changes placed q v m.0 → IsAlone m
     made_alone none made = (none, alone_after kind place word left changes placed q v m.0 made)
 

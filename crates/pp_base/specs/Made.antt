@@ -21,7 +21,8 @@ use Rattle.pp_base.specs.Private.{WroteField}
 
 module _ {E A W : Type 0} where
   -- The rule of a shape allows the seat to change the word at a place so, and after it `then` holds.
-  abbrev pub MayStep : ℕ → ℕ → (ℕ → ℕ) → (ℕ → ℕ → ℕ) → (Sizes → List ℕ → PoolState E A W → Type 0) → Sizes → Seat Unit (SeatView E A W) → ℕ → (ℕ → ℕ)
+  abbrev pub MayStep : ℕ → ℕ → (ℕ → ℕ) → (ℕ → ℕ → ℕ) → (Sizes → List ℕ → PoolState E A W → Type 0) → Sizes → Seat Unit (SeatView E A W) → ℕ
+      → (ℕ → ℕ)
       → (ℕ → Me Unit (SeatView E A W) → Type 0) → Type 0
   MayStep sides sentinels head field addition z s place change then =
       Allows (Holds sides (opening_words sentinels head field) addition z) 0 s.id s.me place change then
@@ -34,11 +35,13 @@ module _ {E A W : Type 0} where
 
   -- the number n is stored in the walk word i
   abbrev pub Announced : Sizes → ℕ → ℕ → Seat Unit (SeatView E A W) → Seat Unit (SeatView E A W) → Type 0
-  Announced z i n s s' = MadeQuietStep announce_step (walk_place z (known s).number i) n n (with_walk i (naming n) (known s)) (view s) (view s')
+  Announced z i n s s' = MadeQuietStep announce_step (walk_place z (known s).number i) n n (with_walk i (naming n) (known s)) (view s)
+      (view s')
 
   -- the walk word i is cleared
   abbrev pub ClearedWord : Sizes → (ℕ → W → W) → ℕ → Seat Unit (SeatView E A W) → Seat Unit (SeatView E A W) → Type 0
-  ClearedWord z forget i s s' = MadeQuietStep clear_step (walk_place z (known s).number i) 0 0 (clearing forget i (known s)) (view s) (view s')
+  ClearedWord z forget i s s' = MadeQuietStep clear_step (walk_place z (known s).number i) 0 0 (clearing forget i (known s)) (view s)
+      (view s')
 
   -- a field of the record that is held in the walk word i is loaded
   abbrev pub ReadHeld : Sizes → ℕ → Field → ℕ → Seat Unit (SeatView E A W) → Seat Unit (SeatView E A W) → Type 0

@@ -86,7 +86,8 @@ pub record HasRoom (z : Sizes) (p : Purse) : Type 0 where
 
 -- What a pass has beside its seat agrees with what the seat knows. The free list has numbers that the pass owns, each at most as
 -- often as it owns them: the others are those of records that were taken.
-pub record Keeping {E A W : Type 0} (sentinels sides : ℕ) (s : Seat Unit (SeatView E A W)) (number share : ℕ) (walk : List ℕ) (p : Purse) : Type 0 where
+pub record Keeping {E A W : Type 0} (sentinels sides : ℕ) (s : Seat Unit (SeatView E A W)) (number share : ℕ) (walk : List ℕ)
+    (p : Purse) : Type 0 where
   pub lone : IsAlone s.me
   pub pass : IsPassOf (known s).sizes (known s)
   pub number_is : (known s).number ≡ number

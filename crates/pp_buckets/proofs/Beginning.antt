@@ -1,35 +1,27 @@
 -- A call that was begun on a pass that rests is under way.
-use Rattle.std.proofs.Common.{◌≡◌, ℕ, zero, suc, ◌+◌, ◌<◌, ◌≤◌, min, Bool, true, false, List, [], ◌∷◌, length, map, get_or}
-use Rattle.std.proofs.Common.{Option, Some, None, refl, sym, ap, ◌∙◌, subst, arith}
+use Rattle.std.proofs.Common.{◌≡◌, ℕ, zero, suc, ◌<◌, ◌≤◌, Bool, true, false, List, [], ◌∷◌, length, map, get_or}
+use Rattle.std.proofs.Common.{refl, sym, ap, ◌∙◌, subst, arith}
 use Rattle.std.proofs.Math.Bool.{false≢true}
 use Rattle.std.specs.Prelude.{replicate}
 use Rattle.pp_link.specs.declared.layout.Sizes.{Sizes}
-use Rattle.pp_link.specs.Places.{IsNumber}
-use Rattle.pp_pool.specs.declared.fresh.Fresh.{Fresh}
 use Rattle.pp_model.specs.declared.Call.{Call}
 use Rattle.pp_model.specs.Calls.{key_of}
-use Rattle.pp_model.specs.MapCalls.{LeftAlone}
 use Rattle.pp_rule.specs.declared.views.WalkSlot.{WalkSlot}
 use Rattle.pp_rule.specs.Views.{slot, blank}
 use Rattle.pp_base.specs.declared.purse.Purse.{Purse}
 use Rattle.pp_base.specs.Passes.{IsPassOf, IsAtRest, named_of}
-use Rattle.pp_calls.specs.PoolViews.{pool_view}
 use Rattle.pp_lists.specs.Lists.{ListPass}
 use Rattle.pp_lists.specs.Turns.{ListView}
 use Rattle.pp_lists.specs.Walks.{bucket}
-use Rattle.pp_turns.specs.Turns.{Waits, Unplaced}
 use Rattle.pp_turns.proofs.Placing.{unplaced_none}
 use Rattle.pp_turns.proofs.Purses.{alone_none}
 use Rattle.pp_turns.proofs.Stretches.{waits_none}
-use Rattle.pp_walk.specs.declared.walk.Walk.{Walk}
-use Rattle.pp_walk.specs.Roles.{IsWalk, is_look}
-use Rattle.pp_walk.specs.Words.{AllEmpty, IsEmpty}
+use Rattle.pp_walk.specs.Words.{AllEmpty}
 use Rattle.pp_list.specs.declared.going.ListGoing.{ListGoing}
 use Rattle.pp_list.specs.declared.going.Next.{Next}
-use Rattle.pp_list.specs.declared.going.Next.TheVariants.{Walks}
 use Rattle.pp_list.specs.Begun.{BeginsOn}
-use Rattle.pp_list.specs.Going.{IsUnder, Stands, Begun, is_after, Carries}
-use Rattle.pp_list.specs.Purses.{HasOut, out_of}
+use Rattle.pp_list.specs.Going.{IsUnder, Stands, Begun, is_after}
+use Rattle.pp_list.specs.Purses.{HasOut}
 
 names_at : (ws : List WalkSlot) (k j : ℕ) → map named_of ws ≡ replicate k zero → (get_or ws j blank).named ≡ 0
 names_at [] k j is = refl
@@ -38,7 +30,8 @@ names_at (w ∷ ws) (suc k) zero is = ap (λ (l : List ℕ). get_or l 0 0) is
 names_at (w ∷ ws) (suc k) (suc j) is = names_at ws k j (let rest : map named_of ws ≡ replicate k zero = cc in rest)
 
 -- the walk words of a pass that names no record are empty
-pub all_empty : (z : Sizes) (q : ListPass) (walk : List ℕ) → IsPassOf z q → map named_of q.walk ≡ walk → walk ≡ replicate 5 zero → AllEmpty q
+pub all_empty : (z : Sizes) (q : ListPass) (walk : List ℕ) → IsPassOf z q → map named_of q.walk ≡ walk → walk ≡ replicate 5 zero
+    → AllEmpty q
 all_empty z q walk p is none j lt = let zero_named : (slot q j).named ≡ 0 = names_at q.walk 5 j (is ∙ none) in record {
   named = zero_named;
   free = by ((slot q j).held) refl zero_named;

@@ -1,28 +1,25 @@
 -- A call is under way still where its pass learnt of more steps of others.
-use Rattle.std.proofs.Common.{◌≡◌, ◌⊎◌, ℕ, zero, suc, ◌+◌, ◌<◌, ◌≤◌, min, Bool, true, false, List, [], ◌∷◌, length, map, drop}
-use Rattle.std.proofs.Common.{Option, Some, None, refl, sym, ap, ◌∙◌, subst, arith}
+use Rattle.std.proofs.Common.{◌≡◌, ℕ, ◌<◌, Bool, true, false, List, length}
+use Rattle.std.proofs.Common.{sym, ap, ◌∙◌, subst}
 use Rattle.pp_link.specs.declared.layout.Sizes.{Sizes}
-use Rattle.pp_pool.specs.declared.fresh.Fresh.{Fresh}
 use Rattle.pp_model.specs.declared.Call.{Call}
 use Rattle.pp_model.specs.declared.steps.Step.{Step}
 use Rattle.pp_model.specs.declared.Reply.TheVariants.{Took}
 use Rattle.pp_model.specs.Calls.{key_of, Takes}
-use Rattle.pp_model.specs.MapCalls.{LeftAlone}
 use Rattle.pp_rule.specs.Lists.{BeginsWith}
 use Rattle.pp_rule.specs.Orders.{log_of, made_by, placed_by}
 use Rattle.pp_rule.proofs.Histories.{log_begins}
 use Rattle.pp_base.specs.declared.purse.Purse.{Purse}
 use Rattle.pp_base.specs.Passes.{IsAtRest}
-use Rattle.pp_calls.specs.PoolViews.{pool_view, link_writes}
+use Rattle.pp_calls.specs.PoolViews.{link_writes}
 use Rattle.pp_calls.specs.Steps.{Went}
 use Rattle.pp_shelf.specs.Runs.{map_sizes, steps_made}
 use Rattle.pp_lists.specs.Lists.{ListPass}
 use Rattle.pp_lists.specs.Turns.{ListView}
 use Rattle.pp_lists.specs.Losses.{list_reader}
 use Rattle.pp_turns.specs.Tallies.{losing, effected}
-use Rattle.pp_turns.specs.Turns.{Since, Waits, Unplaced, Struck, WasAbsent}
+use Rattle.pp_turns.specs.Turns.{Since, Unplaced, WasAbsent}
 use Rattle.pp_turns.proofs.Placing.{waits_learnt, since_learnt, unplaced_on, struck_later, absent_on}
-use Rattle.pp_walk.specs.declared.walk.Walk.{Walk}
 use Rattle.pp_walk.specs.Roles.{IsWalk, IsFound}
 use Rattle.pp_walk.specs.Effects.{MayFill}
 use Rattle.pp_rule.specs.Views.{slot, value_of}
@@ -30,7 +27,7 @@ use Rattle.pp_list.specs.declared.going.ListGoing.{ListGoing}
 use Rattle.pp_list.specs.declared.going.Next.{Next}
 use Rattle.pp_list.specs.declared.going.Next.TheVariants.{Walks, Detaches, Marks, Publishes, Unlinks, Over}
 use Rattle.pp_list.specs.Causes.{taken_by}
-use Rattle.pp_list.specs.Going.{IsUnder, Stands, Begun, Tries, HasTaken, Inserts, Carries, MayUnlink, HoldsFirst}
+use Rattle.pp_list.specs.Going.{IsUnder, Stands, Begun, Tries, HasTaken, Inserts, MayUnlink, HoldsFirst}
 use Rattle.pp_list.specs.Purses.{HasOut}
 
 module _ (z : Sizes) (share : ℕ) (from v w : ListView) (same : w.known ≡ v.known) (order : BeginsWith w.order v.order)
@@ -56,8 +53,10 @@ module _ (z : Sizes) (share : ℕ) (from v w : ListView) (same : w.known ≡ v.k
     memory = t.memory;
     early = t.early;
     later = t.later;
-    since = subst (λ (q : ListPass). Since list_reader (map_sizes z) call q.own.start (effected t.memory lost t.early t.later) from w) (sym same)
-        (since_learnt from v w same order made placed list_reader (map_sizes z) call v.known.own.start (effected t.memory lost t.early t.later)
+    since = subst (λ (q : ListPass). Since list_reader (map_sizes z) call q.own.start (effected t.memory lost t.early t.later) from w)
+        (sym same)
+        (since_learnt from v w same order made placed list_reader (map_sizes z) call v.known.own.start (effected t.memory lost t.early
+        t.later)
         t.since);
     few = t.few;
     struck = struck_later call (Took x) from v w t.since.went.number order t.struck placed;

@@ -8,27 +8,29 @@ use Rattle.pp_model.specs.declared.Reply.TheVariants.{Took}
 use Rattle.pp_model.specs.declared.Turned.{Turned}
 use Rattle.pp_model.specs.declared.Turned.TheVariants.{On, Done}
 use Rattle.pp_model.specs.declared.steps.Step.{Step}
-use Rattle.pp_model.specs.MapCalls.{AnswersCall, IfOn, IfDone, WentOn, Counted, MakesTurn, SameCall}
+use Rattle.pp_model.specs.MapCalls.{Answered, AnswersCall, IfOn, IfDone, Counted, MakesTurn}
 use Rattle.pp_model.specs.Pass.{PassView}
 use Rattle.pp_base.specs.declared.purse.Purse.{Purse}
 use Rattle.pp_calls.specs.PoolViews.{pool_view}
-use Rattle.pp_calls.specs.Steps.{Went, Stepped, HasOwn, StandsThen, TurnMade}
+use Rattle.pp_calls.specs.Steps.{Went, HasOwn, StandsThen}
 use Rattle.pp_shelf.specs.Runs.{map_sizes, steps_made}
 use Rattle.pp_lists.specs.Turns.{ListView}
-use Rattle.pp_lists.specs.Losses.{list_reader}
 use Rattle.pp_turns.specs.Tallies.{losing, effected}
-use Rattle.pp_turns.specs.Turns.{BegunAt, Waits, Unplaced}
+use Rattle.pp_turns.specs.Turns.{BegunAt}
 use Rattle.pp_turns.proofs.Answering.{makes_turn, begun_on, begun_shows, counts}
 use Rattle.pp_turns.proofs.Stretches.{steps_both, stepped_steps}
-use Rattle.pp_walk.specs.declared.walk.Walk.{Walk}
+use Rattle.pp_walk.specs.Lone.{Sees}
+use Rattle.pp_walk.proofs.LoneCounts.{bare_clean_now}
 use Rattle.pp_list.specs.declared.going.ListGoing.{ListGoing}
 use Rattle.pp_list.specs.declared.going.Next.{Next}
 use Rattle.pp_list.specs.declared.going.Next.TheVariants.{Walks, Detaches, Marks, Publishes, Unlinks, Over}
 use Rattle.pp_list.specs.Causes.{list_causes}
 use Rattle.pp_list.specs.Meant.{list_words, list_meaning, HoldsPairs}
 use Rattle.pp_list.specs.Going.{IsUnder, Stands, Begun, Tries, HasTaken, going_of, kind_of, is_after}
+use Rattle.pp_list.specs.Lone.{LoneAt, LoneTurn}
 use Rattle.pp_list.specs.Turned.{ListTurned}
-use Rattle.pp_list.proofs.Treading.{on_by, done_by}
+use Rattle.pp_buckets.specs.Tables.{IsGoing}
+use Rattle.pp_list.proofs.Treading.{on_by}
 
 kind_few : (n : Next) → kind_of n ≤ 3
 kind_few (Walks w) = by w.fresh
@@ -80,31 +82,45 @@ module _ (z : Sizes) (share : ℕ) (g : ListGoing) (from w : ListView) (free fre
   stood_counts (Unlinks m) is s = taken_counts s.0 m.value is s.1.0
   stood_counts Over is s = absurd s
 
+-- What is known of the call over a turn of it that goes on.
+on_alone : (z : Sizes) (share : ℕ) (g g' : ListGoing) (v w : ListView) (p p' : Purse) (result : Turned)
+    → IfOn result ((from : ListView) (free : List ℕ) → IsUnder z share g v p from free → IsUnder z share g' w p' from free)
+    → (LoneAt z g.next v → LoneTurn z g g' w result)
+    → IfOn result ((from : ListView) (free : List ℕ) → IsGoing z share g v p from free → IsGoing z share g' w p' from free)
+on_alone z share g g' v w p p' On each alone = λ from free x. (
+  each from free x.0,
+  λ one clean. let l = x.1 one clean in
+      let turn = alone l.0 in (turn.on, turn.lost ∙ l.1),
+)
+on_alone z share g g' v w p p' (Done answer) each alone = tt
+
 module _ (z : Sizes) (share : ℕ) (g g' : ListGoing) (v w : ListView) (p p' : Purse) (result : Turned)
-    (t : ListTurned z share g g' v w p p' result) where
+    (t : ListTurned z share g g' v w p p' result) (alone : LoneAt z g.next v → LoneTurn z g g' w result) where
   abbrev Under : ListGoing → ListView → Purse → ListView → List ℕ → Type 0
-  Under h x r = IsUnder z share h x r
+  Under h x r = IsGoing z share h x r
 
   pub made_clause : HasOwn w.order → w.known.sizes ≡ v.known.sizes
       → MakesTurn list_meaning (going_of v.known g) (going_of w.known g') (pool_view v p.free.items share) (pool_view w p'.free.items share)
-  made_clause own sizes = makes_turn list_meaning refl (going_of v.known g) (going_of w.known g') v w p.free.items p'.free.items share record {
-    stepped = t.stepped;
-    some_made = subst (λ (l : List Step). 0 < length l) (stepped_steps v w t.stepped) t.some_made;
-    stands = λ s. t.stands own s;
-  } sizes record {
-    call = t.same.call;
-    budget = t.same.races;
-    struck = t.stays;
-    few = kind_few g'.next;
-    high = omega arith;
-  } t.strikes
+  made_clause own sizes = makes_turn list_meaning refl (going_of v.known g) (going_of w.known g') v w p.free.items p'.free.items share
+      record {
+        stepped = t.stepped;
+        some_made = subst (λ (l : List Step). 0 < length l) (stepped_steps v w t.stepped) t.some_made;
+        stands = λ s. t.stands own s;
+      } sizes record {
+        call = t.same.call;
+        budget = t.same.races;
+        struck = t.stays;
+        few = kind_few g'.next;
+        high = omega arith;
+      } t.strikes
 
   pub going_clause : IfOn result ((before : PassView) → BegunAt share (Under g v p) before → BegunAt share (Under g' w p') before)
   going_clause = on_by result ((from : ListView) (free : List ℕ) → Under g v p from free → Under g' w p' from free)
       ((before : PassView) → BegunAt share (Under g v p) before → BegunAt share (Under g' w p') before)
-      (λ each before b. begun_on share (Under g v p) (Under g' w p') each before b) t.goes_on
+      (λ each before b. begun_on share (Under g v p) (Under g' w p') each before b)
+      (on_alone z share g g' v w p p' result t.goes_on alone)
 
-  counted_at : (from : ListView) (free : List ℕ) → Under g v p from free → Under g' w p' from free
+  counted_at : (from : ListView) (free : List ℕ) → IsUnder z share g v p from free → IsUnder z share g' w p' from free
       → Counted list_meaning (map_sizes z) (going_of w.known g') (pool_view from free share) (pool_view w p'.free.items share)
   counted_at from free x y = stood_counts z share g' from w free p'.free.items
       (let e = ap (λ (l : List Step). length l) (steps_both from v w (stood_went z g.call g.races g.lost g.next from v x.stands) t.stepped)
@@ -112,19 +128,39 @@ module _ (z : Sizes) (share : ℕ) (g g' : ListGoing) (v w : ListView) (p p' : P
 
   pub counted_clause : IfOn result ((before : PassView) → BegunAt share (Under g v p) before
       → Counted list_meaning (map_sizes z) (going_of w.known g') before (pool_view w p'.free.items share))
-  counted_clause = on_by result ((from : ListView) (free : List ℕ) → Under g v p from free → Under g' w p' from free)
+  counted_clause = on_by result
+      ((from : ListView) (free : List ℕ) → IsUnder z share g v p from free → IsUnder z share g' w p' from free)
       ((before : PassView) → BegunAt share (Under g v p) before
       → Counted list_meaning (map_sizes z) (going_of w.known g') before (pool_view w p'.free.items share))
       (λ each before b. begun_shows share (Under g v p)
       (λ before. Counted list_meaning (map_sizes z) (going_of w.known g') before (pool_view w p'.free.items share))
-      (λ from free x. counted_at from free x (each from free x)) before b) t.goes_on
+      (λ from free x. counted_at from free x.0 (each from free x.0)) before b) t.goes_on
 
-  pub answered_clause : StandsThen w → IfDone result (λ answer. (before : PassView) → BegunAt share (Under g v p) before
+  -- What is told of the call as it is answered, and that it was not disturbed where the pass is alone.
+  answers : (answer : Answer) → StandsThen w → Sees z w → (LoneAt z g.next v → LoneTurn z g g' w (Done answer))
+      → ((from : ListView) (free : List ℕ) → IsUnder z share g v p from free → StandsThen w
+      → Answered list_meaning (map_sizes z) g.call g.races (pool_view from free share) (pool_view w p'.free.items share) answer g'.lost)
+      → (from : ListView) (free : List ℕ) → Under g v p from free
+      → AnswersCall list_meaning (map_sizes z) g.call g.races (pool_view from free share) (pool_view w p'.free.items share) answer
+  answers answer stands sees lone each from free x = let told = each from free x.0 stands in record {
+    turns = g'.lost;
+    told = told;
+    alone = λ one clean. let l = x.1 one clean in let turn = lone l.0 in record {
+      lost = told.counted ∙ (turn.lost ∙ l.1);
+      clean = bare_clean_now z w sees one turn.done;
+    };
+  }
+
+  pub answered_clause : StandsThen w → Sees z w → IfDone result (λ answer. (before : PassView) → BegunAt share (Under g v p) before
       → AnswersCall list_meaning (map_sizes z) g.call g.races before (pool_view w p'.free.items share) answer)
-  answered_clause stands = done_by result (λ answer. (from : ListView) (free : List ℕ) → Under g v p from free → StandsThen w
-      → AnswersCall list_meaning (map_sizes z) g.call g.races (pool_view from free share) (pool_view w p'.free.items share) answer)
-      (λ answer. (before : PassView) → BegunAt share (Under g v p) before
-      → AnswersCall list_meaning (map_sizes z) g.call g.races before (pool_view w p'.free.items share) answer)
-      (λ answer each before b. begun_shows share (Under g v p)
-      (λ before. AnswersCall list_meaning (map_sizes z) g.call g.races before (pool_view w p'.free.items share) answer)
-      (λ from free x. each from free x stands) before b) t.answered
+  answered_clause stands sees = by result alone t.answered
+    where
+      by : (r : Turned) → (LoneAt z g.next v → LoneTurn z g g' w r)
+          → IfDone r (λ answer. (from : ListView) (free : List ℕ) → IsUnder z share g v p from free → StandsThen w
+          → Answered list_meaning (map_sizes z) g.call g.races (pool_view from free share) (pool_view w p'.free.items share) answer g'.lost)
+          → IfDone r (λ answer. (before : PassView) → BegunAt share (Under g v p) before
+          → AnswersCall list_meaning (map_sizes z) g.call g.races before (pool_view w p'.free.items share) answer)
+      by On lone each = tt
+      by (Done answer) lone each = λ before b. begun_shows share (Under g v p)
+          (λ before. AnswersCall list_meaning (map_sizes z) g.call g.races before (pool_view w p'.free.items share) answer)
+          (λ from free x. answers answer stands sees lone each from free x) before b

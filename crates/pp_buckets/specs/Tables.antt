@@ -6,18 +6,24 @@ use Rattle.pp_model.specs.declared.Placed.{Placed}
 use Rattle.pp_model.specs.Pass.{PassView}
 use Rattle.pp_rule.specs.declared.shape.Shape.{Ghosts}
 use Rattle.pp_base.specs.declared.pool.Pass.{Pass}
+use Rattle.pp_base.specs.declared.purse.Purse.{Purse}
 use Rattle.pp_base.specs.Passes.{view}
 use Rattle.pp_lists.specs.Turns.{ListView}
 use Rattle.pp_lists.specs.declared.own.ListOwn.{ListOwn}
 use Rattle.pp_turns.specs.Turns.{BegunAt}
 use Rattle.pp_list.specs.declared.going.ListGoing.{ListGoing}
 use Rattle.pp_list.specs.Going.{IsUnder}
+use Rattle.pp_list.specs.Lone.{LoneSince}
 
 -- the sizes of the pool of a table
 abbrev pub table_sizes : ℕ → ℕ → ℕ → Sizes
 table_sizes passes records buckets = record { passes = passes; records = records; heads = buckets }
 
+-- A call is under way on a pass, which it left so since its begin. Where the pass is alone on its pool, none of its turns was lost.
+abbrev pub IsGoing : Sizes → ℕ → ListGoing → ListView → Purse → ListView → List ℕ → Type 0
+IsGoing z share g now p from free = IsUnder z share g now p from free × LoneSince z g from now
+
 -- the call is under way on the pass, which callers saw so as it was begun
 abbrev pub IsCalling : {S : Type 0} {shape : Ghosts S Change Placed ListOwn} → Sizes → Pass S Change Placed ListOwn shape → ListGoing
     → PassView → Type 0
-IsCalling z p g before = BegunAt p.share (IsUnder z p.share g (view p.seat) p.purse) before
+IsCalling z p g before = BegunAt p.share (IsGoing z p.share g (view p.seat) p.purse) before

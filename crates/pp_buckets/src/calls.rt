@@ -47,7 +47,8 @@ fn answer(table: &Buckets, pass: &mut Pass<ListShape>, call: Call, races: u64) -
     requires may { MayCall call races (pass_view pass.old) }
     ensures belongs { IsMember table.now.pool.table.shared.table_id table.now.pool.layout pass.new }
     ensures idle { IsResting pass.new }
-    ensures answered { AnswersCall list_meaning (map_sizes table.now.pool.layout) call races (pass_view pass.old) (pass_view pass.new) result }
+    ensures answered { AnswersCall list_meaning (map_sizes table.now.pool.layout) call races (pass_view pass.old) (pass_view pass.new)
+        result }
 {
     let mut going = table.begin(pass, call, races);
     loop {

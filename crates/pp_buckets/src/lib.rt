@@ -6,9 +6,12 @@ pub mod calls;
 ghost use Rattle.std.specs.Prelude.{◌≡◌, ◌<◌, IfOk, length};
 ghost use Rattle.pp_link.specs.Places.{IsWithin};
 ghost use Rattle.pp_model.specs.Lists.{AtEach};
+ghost use Rattle.pp_model.specs.MapCalls.{IsClean};
 ghost use Rattle.pp_model.specs.Pass.{IsFresh};
 ghost use Rattle.pp_lists.specs.Walks.{bucket};
 ghost use Rattle.pp_calls.specs.PoolViews.{pass_view};
+ghost use Rattle.pp_ends.specs.Ends.{map_sizes};
+ghost use Rattle.pp_list.specs.Meant.{list_meaning};
 ghost use Rattle.pp_rule.specs.Opening.{share_of};
 ghost use Rattle.pp_turns.specs.Passes.{IsMember, IsResting};
 ghost use Rattle.pp_buckets.specs.Tables.{table_sizes};
@@ -47,12 +50,15 @@ impl Buckets {
         requires { IsWithin (table_sizes passes records buckets) }
         ensures sizes { IfOk result (λ made. made.0.pool.layout ≡ table_sizes passes records buckets) }
         ensures count { IfOk result (λ made. length made.1.items ≡ passes) }
-        ensures belong { IfOk result (λ made. AtEach made.1.items (λ k p. IsMember made.0.pool.table.shared.table_id made.0.pool.layout p)) }
+        ensures belong { IfOk result (λ made. AtEach made.1.items (λ k p. IsMember made.0.pool.table.shared.table_id made.0.pool.layout
+            p)) }
         ensures rest { IfOk result (λ made. AtEach made.1.items (λ k p. IsResting p)) }
         ensures fresh { IfOk result (λ made. AtEach made.1.items (λ k p. IsFresh (pass_view p))) }
         ensures share { IfOk result (λ made. AtEach made.1.items (λ k p. (pass_view p).share
             ≡ share_of 0 (table_sizes passes records buckets) k)) }
         ensures callers { IfOk result (λ made. AtEach made.1.items (λ k p. (pass_view p).caller ≡ k)) }
+        ensures clean { IfOk result (λ made. AtEach made.1.items (λ k p. IsClean list_meaning (map_sizes made.0.pool.layout)
+            (pass_view p))) }
     {
         let heads = buckets;
         let sizes = Sizes {

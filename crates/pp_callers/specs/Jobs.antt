@@ -4,8 +4,7 @@ use Rattle.pp_model.specs.declared.Call.{Call}
 use Rattle.pp_model.specs.declared.Answer.{Answer}
 use Rattle.pp_model.specs.Calls.{key_of}
 use Rattle.pp_model.specs.Lists.{AtEach}
-use Rattle.pp_model.specs.Pass.{PassView, Meaning, MapSizes}
-use Rattle.pp_model.specs.MapCalls.{AnswersCalls}
+use Rattle.pp_model.specs.Pass.{PassView}
 
 -- a caller may make these calls with this pass: their keys are in range, and the pass and the list of answers have room
 pub record MayMake (pass : PassView) (calls : List Call) (answers : List Answer) (space : ℕ) : Type 0 where

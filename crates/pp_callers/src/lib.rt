@@ -92,7 +92,8 @@ fn make_calls<M: MapCalls, G: Gate>(
     requires races { 1 ≤ races }
     ensures belongs { M.Belongs map.now pass.new }
     ensures idle { M.Idle pass.new }
-    ensures answered { AnswersCalls M.meaning (M.sizes map.now) races (M.pass_view pass.old) calls.now answers.new.items (M.pass_view pass.new) }
+    ensures answered { AnswersCalls M.meaning (M.sizes map.now) races (M.pass_view pass.old) calls.now answers.new.items
+        (M.pass_view pass.new) }
 {
     let mut number: u32 = 1;
     for call in calls {

@@ -2,3 +2,4 @@ pub mod Growing
 pub mod Remaining
 pub mod Purses
 pub mod Striking
+pub mod Lone

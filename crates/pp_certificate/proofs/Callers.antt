@@ -16,7 +16,8 @@ below : (bound : ℕ) (o : Option ℕ) → IfSome (option_and_then (λ n. cond (
 below bound None = tt
 below bound (Some n) = cond_both (ltb n bound) (Some n) None (λ r. IfSome r (λ m. m < bound)) (ltb-true n bound) (λ _. tt)
 
-change_to-fits : (caller number : ℕ) (call : Call) (rest : List (List ℕ)) → caller < 64 → IfSome (change_to caller number call rest) EntryFits
+change_to-fits : (caller number : ℕ) (call : Call) (rest : List (List ℕ)) → caller < 64 → IfSome (change_to caller number call rest)
+    EntryFits
 change_to-fits caller number call [] fits = fits
 change_to-fits caller number call (field ∷ rest) fits = tt
 

@@ -17,7 +17,8 @@ between_later : (text : List ℕ) (from end k : ℕ) → from + k ≤ end → be
 between_later text from end k within =
     let m = end - (from + k) in
     let split : end - from ≡ k + m = omega arith in
-    ap (take m) (sym (drop-drop k from text)) ∙ sym (drop-take k m (drop from text)) ∙ ap (λ j. drop k (take j (drop from text))) (sym split)
+    ap (take m) (sym (drop-drop k from text)) ∙ sym (drop-take k m (drop from text)) ∙ ap (λ j. drop k (take j (drop from text)))
+    (sym split)
 
 between_front : (text : List ℕ) (from end n : ℕ) → from + n ≤ end → between from (from + n) text ≡ take n (between from end text)
 between_front text from end n within =

@@ -218,7 +218,8 @@ read_all text from n stage said last end ended good read =
 -- ---- the vectors behind it
 
 -- a push to one of the vectors is a push to its list
-pub placed_in_vectors : {X : Type 0} (list : X → List Placed) (vectors : List X) (log : List Change) (caller : ℕ) (old new : X) (placed : Placed)
+pub placed_in_vectors : {X : Type 0} (list : X → List Placed) (vectors : List X) (log : List Change) (caller : ℕ) (old new : X)
+    (placed : Placed)
     → caller < length vectors → old ≡ get_or vectors caller old → list new ≡ list old ++ placed ∷ []
     → certificate log (map list (set vectors caller new)) ≡ with_placed (certificate log (map list vectors)) caller placed
 placed_in_vectors list vectors log caller old new placed within was is =

@@ -335,8 +335,13 @@ change_is_line c fits =
     line_of_fields (change_line c) (codes "change") (caller ∷ number ∷ call_first c.call ∷ call_rest c.call) (Changes c)
     (change_text_is caller number (call_text c.call)
     ∙ ap (λ t. (codes "change" ++ 32 ∷ (caller ++ 32 ∷ (number ++ 32 ∷ t))) ++ 10 ∷ []) (sym (call_text_is c.call)))
-    (word_by (codes "change") refl)
-    (word_of_decimal c.caller (caller_small c.caller fits.caller), (word_of_decimal c.number (count_small c.number fits.number), (words.0, words.1)))
+    (word_by (codes "change") refl) (
+      word_of_decimal c.caller (caller_small c.caller fits.caller),
+      (
+        word_of_decimal c.number (count_small c.number fits.number),
+        (words.0, words.1),
+      ),
+    )
     (ap (λ o. change_with o (count_in number) (call_of (call_first c.call ∷ call_rest c.call)))
     (number_read 64 c.caller fits.caller (caller_small c.caller fits.caller))
     ∙ ap (λ o. change_with (Some c.caller) o (call_of (call_first c.call ∷ call_rest c.call)))
@@ -389,7 +394,8 @@ some_parts text = omega (arith, length-slice_split is_line_feed text)
 abbrev Good : Stage → List ℕ → Type 0
 Good stage text = (n : ℕ) → first_bad_from n stage (parts_of text) ≡ None
 
-good_line : (text rest : List ℕ) (entry : Entry) (at later : Stage) → IsLineOf text entry → next_stage at entry ≡ Some later → Good later rest
+good_line : (text rest : List ℕ) (entry : Entry) (at later : Stage) → IsLineOf text entry → next_stage at entry ≡ Some later
+    → Good later rest
     → Good at (text ++ rest)
 good_line text rest entry at later is next good n =
     ap (first_bad_from n at) (parts_line text rest entry is) ∙ first_bad_from-cons n at is.line (parts_of rest) (some_parts rest)
@@ -553,7 +559,8 @@ good_ending low at may n = good_line (codes "end\n") [] Ends at stage.Ended endi
 module _ (log : List Change) (lists : List (List Placed)) (fit : Fit log lists) where
   whole_good : first_bad (certificate_text log lists) ≡ None
   whole_good =
-      good_line (codes "certificate 1\n") (flat_map change_line log ++ (said_text 0 lists ++ codes "end\n")) Opens stage.Opening stage.Log opening_is_line refl
+      good_line (codes "certificate 1\n") (flat_map change_line log ++ (said_text 0 lists ++ codes "end\n")) Opens stage.Opening stage.Log
+      opening_is_line refl
       (good_log log (said_text 0 lists ++ codes "end\n") fit.changes
       (good_lists 0 lists (codes "end\n") (omega (arith, fit.callers)) fit.placed good_ending stage.Log tt)) 1
 

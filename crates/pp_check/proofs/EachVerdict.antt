@@ -105,7 +105,8 @@ same_call a b =
     ⊎_elim
     (λ key.
     ⊎_elim
-    (λ value. inl (sym (call_back a) ∙ ap₂ (λ n k. call_of n k (asked_of a)) word key ∙ ap (call_of (word_of b) (key_of b)) value ∙ call_back b))
+    (λ value. inl (sym (call_back a) ∙ ap₂ (λ n k. call_of n k (asked_of a)) word key ∙ ap (call_of (word_of b) (key_of b)) value
+    ∙ call_back b))
     (λ other. inr (λ e. other (ap asked_of e)))
     (cases_eq (asked_of a) (asked_of b)))
     (λ other. inr (λ e. other (ap key_of e)))

@@ -62,7 +62,8 @@ stands_below log index key p count is split r c before at its =
     let mine : Contains index (touch key r) = subst (λ k. Contains index (touch k r)) its (is.each r c at) in
     ⊎_elim
     (λ low. (mine.0, low, mine.2))
-    (λ high. absurd (split.above mine.0 (touch key r) high mine.1 (subst (λ (t : Touch). IsBefore t key p) (sym mine.2) (inr (refl, before)))))
+    (λ high. absurd (split.above mine.0 (touch key r) high mine.1 (subst (λ (t : Touch). IsBefore t key p) (sym mine.2)
+    (inr (refl, before)))))
     (cases_lt mine.0 count)
 
 -- with no touch of the key before, it has none

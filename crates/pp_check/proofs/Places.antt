@@ -81,7 +81,8 @@ places_rise p caller (c ∷ log) =
     (cases_eq c.caller caller)
 
 -- a change of the caller has its place among them
-pub place_in : (p caller : ℕ) (log : List Change) (q : ℕ) (c : Change) (n : ℕ) → slice_get log q ≡ Some c → c.caller ≡ caller → n ≡ p + q + 1
+pub place_in : (p caller : ℕ) (log : List Change) (q : ℕ) (c : Change) (n : ℕ) → slice_get log q ≡ Some c → c.caller ≡ caller
+    → n ≡ p + q + 1
     → IsAmong n (places_from p caller log)
 place_in p caller [] q c n at its is = absurd cc
 place_in p caller (d ∷ log) zero c n at its is =
@@ -162,7 +163,8 @@ pub changes_rise : (mine : List Placed) → Rising mine → ChangesFrom 1 mine �
 changes_rise mine rising above = list_rises 1 mine rising above
 
 -- a change of a list has its place among them
-pub listed_in : (mine : List Placed) (n : ℕ) (s : Placed) → slice_get mine n ≡ Some s → changes s.reply ≡ true → IsAmong s.place (places_of mine)
+pub listed_in : (mine : List Placed) (n : ℕ) (s : Placed) → slice_get mine n ≡ Some s → changes s.reply ≡ true
+    → IsAmong s.place (places_of mine)
 listed_in [] n s at changed = absurd cc
 listed_in (t ∷ mine) zero s at changed =
     let same : t ≡ s = cc in

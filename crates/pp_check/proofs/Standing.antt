@@ -36,7 +36,8 @@ module _ (log : List Change) (caller : ℕ) (mine : List Placed) where
   fit_change n s changed fits = subst (λ b. FitsBy b log caller n s) changed fits
 
   -- the log has the changes of the list at their places
-  listed_logged : InPlaceTo log caller mine (length mine) → (place : ℕ) → IsAmong place (places_of mine) → IsAmong place (places_in caller log)
+  listed_logged : InPlaceTo log caller mine (length mine) → (place : ℕ) → IsAmong place (places_of mine)
+      → IsAmong place (places_in caller log)
   listed_logged all place among =
       let has = listed_out mine place among in
       let in_place = all has.position has.call (slice_get_within mine has.position has.call has.listed) has.listed in
@@ -75,7 +76,8 @@ module _ (log : List Change) (caller : ℕ) (mine : List Placed) where
       let fit = fit_change (has.position + 1) has.call has.changed in_place.fits in
       let same : p ≡ fit.before = omega (arith, fit.place, has.is) in
       let is : change_of caller (has.position + 1) has.call.call ≡ c =
-      let logged : slice_get log p ≡ Some (change_of caller (has.position + 1) has.call.call) = ap (slice_get log) same ∙ fit.logged in cc in
+      let logged : slice_get log p ≡ Some (change_of caller (has.position + 1) has.call.call) = ap (slice_get log) same ∙ fit.logged in
+      cc in
       record {
         position = has.position;
         number_is = ap (λ (x : Change). x.number) (sym is);
@@ -136,7 +138,8 @@ module _ (log : List Change) (caller : ℕ) (mine : List Placed) where
       })
       (cases_lt m i)
 
-  pub in_place_first : (i : ℕ) (x : Placed) → i < length mine → i ≤ 0 → InPlaceTo log caller mine i → Fits log caller (i + 1) (get_or mine i x)
+  pub in_place_first : (i : ℕ) (x : Placed) → i < length mine → i ≤ 0 → InPlaceTo log caller mine i → Fits log caller (i + 1)
+      (get_or mine i x)
       → InPlaceTo log caller mine (i + 1)
   in_place_first i x within first so_far fits = in_place_more i x x within so_far fits (λ some. absurd (omega arith))
 

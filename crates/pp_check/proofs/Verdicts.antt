@@ -45,7 +45,8 @@ module _ (text : List ℕ) (said : CertificateView) (is : IsCertificate text sai
       subst (λ l. Stands l c (list_of text c)) (log_read log read) (subst (λ list. Stands log c list) (list_is c mine below at) stands)
 
   -- one more list
-  pub stand_more : (log : List Change) (caller : ℕ) (mine : List Placed) → log ≡ said.log → caller < 64 → slice_get said.lists caller ≡ Some mine
+  pub stand_more : (log : List Change) (caller : ℕ) (mine : List Placed) → log ≡ said.log → caller < 64 → slice_get said.lists caller ≡ Some
+      mine
       → Stands log caller mine → ((c : ℕ) → c < caller → Stands (log_of text) c (list_of text c))
       → (c : ℕ) → c < caller + 1 → Stands (log_of text) c (list_of text c)
   stand_more log caller mine read below at stands so_far c lt =

@@ -1,5 +1,5 @@
 -- A walk word may be cleared, and it is told that no record in hand can be reached then.
-use Rattle.std.proofs.Common.{◌≡◌, ℕ, ◌<◌, true, false, List, [], ◌∷◌, ◌++◌, length, get_or, set, refl, sym, ap, ◌∙◌, subst}
+use Rattle.std.proofs.Common.{◌≡◌, ℕ, ◌<◌, List, [], ◌∷◌, ◌++◌, length, set, refl, sym, ap, ◌∙◌, subst}
 use Rattle.std.proofs.Common.{arith}
 use Rattle.std.proofs.Math.Bool.{false≢true}
 use Rattle.atomic_table.specs.Table.{Me, keeps, Allows}
@@ -8,10 +8,9 @@ use Rattle.pp_link.specs.Places.{walk_place}
 use Rattle.pp_link.proofs.Stores.{walk_stored}
 use Rattle.pp_rule.specs.Lists.{IsIn}
 use Rattle.pp_rule.specs.declared.views.LoggedStep.{LoggedStep}
-use Rattle.pp_rule.specs.declared.views.Chain.{Chain}
 use Rattle.pp_rule.specs.declared.views.PassState.{PassState}
 use Rattle.pp_rule.specs.declared.views.SeatView.{SeatView}
-use Rattle.pp_rule.specs.Orders.{clear_step, replayed, entries_of, stores}
+use Rattle.pp_rule.specs.Orders.{clear_step, replayed, entries_of}
 use Rattle.pp_rule.specs.Views.{naming, all_of}
 use Rattle.pp_rule.specs.States.{RecordState, attached, in_hand, PoolState}
 use Rattle.pp_rule.specs.Rule.{Base}

@@ -4,10 +4,10 @@ use Rattle.std.proofs.Common.{append_assoc, append-nil}
 use Rattle.std.specs.Prelude.{Option, Result, Ok, Err, IfOk, IfErr}
 use Rattle.std.proofs.Common.{inl, inr}
 use Rattle.std.proofs.lemmas.List.{take-append-drop, take_all, length-drop}
-use Rattle.std.specs.Io.KnownBytes.{Appends, Keeps}
-use Rattle.std.proofs.KnownBytes.{Appends-nil, Appends-trans, Appends-kept}
+use Rattle.std.specs.Io.KnownBytes.{Appends}
+use Rattle.std.proofs.KnownBytes.{Appends-nil, Appends-trans}
 use Rattle.pp_outside.specs.declared.Failed.{Failed}
-use Rattle.pp_outside.specs.Outside.{Rose, HasCause, WroteOn, no_write, next_write, WroteToFault, OffersAll}
+use Rattle.pp_outside.specs.Outside.{WroteOn, no_write, next_write, OffersAll}
 use Rattle.pp_devices.specs.Told.{IsTold, IsToldWhole, IsToldPart}
 
 module _ {E : Type 0} (written : E → Option (List ℕ)) (faults : E → ℕ) (Writes : E → E → List ℕ → Result ℕ Failed → Type 0) where

@@ -84,7 +84,8 @@ module _ {W : Type 0} where
       ∙ length-append (made_by p v.order) (made_by p rest)) in
       let kept = ap (λ l. length l) made in
       let none : made_by p rest ≡ [] = nil_from_length (made_by p rest) (omega arith) in
-      let owned : HasOwn rest = λ s i. own s (subst (λ (o : List (LoggedStep Change Placed)). IsIn s o) (sym order.1) (in_right s v.order rest i)) in
+      let owned : HasOwn rest = λ s i. own s (subst (λ (o : List (LoggedStep Change Placed)). IsIn s o) (sym order.1)
+      (in_right s v.order rest i)) in
       let log : log_of w.order ≡ log_of v.order ++ log_of rest = ap log_of order.1 ∙ log_append v.order rest in
       let grown : StandsLog (log_of v.order ++ log_of rest) p (placed_by p v.order) =
       stands_grown (log_of v.order) (log_of rest) p (placed_by p v.order) (others_changed p rest none owned) stands in

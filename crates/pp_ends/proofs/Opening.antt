@@ -53,7 +53,8 @@ module _ {S W : Type 0} {shape : Ghosts S Change Placed W} where
   unfolding dealt
   fresh table z c p new = subst (λ (v : SeatView Change Placed W). IsFresh (pool_view v p.purse.free.items p.share))
       (sym (ap (λ m. m.0) new.knows)) (fresh_view (dealt shape.SENTINELS shape.fresh z c) p.purse.free.items p.share refl refl
-      (ap (λ l. length l) new.purse.free ∙ (numbers_count (start_of shape.SENTINELS z c) (share_of shape.SENTINELS z c) ∙ sym new.share_is)))
+      (ap (λ l. length l) new.purse.free ∙ (numbers_count (start_of shape.SENTINELS z c) (share_of shape.SENTINELS z c)
+      ∙ sym new.share_is)))
 
   pub fresh_caller : (table : TableId) (z : Sizes) (c : ℕ) (p : Pass S Change Placed W shape) → IsNewPass table z c p
       → (pass_view p).caller ≡ c

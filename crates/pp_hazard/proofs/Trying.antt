@@ -235,7 +235,8 @@ module _ {E A W : Type 0} (sides : ℕ) (z : Sizes) (frozen : ℕ → Bool) (for
       announced_one : MadeOne (announces word_place (target first)) v1 v2
       announced_one = subst (λ (p : ℕ). MadeOne (announces p (target first)) v1 v2)
           (ap (λ (q : PassState W). walk_place z q.number i) loaded_known ∙ ap (λ (n : ℕ). walk_place z n i) (more first).number)
-          (plain_one (announces (walk_place z v1.known.number i) (target first)) (with_walk i (naming (target first)) v1.known) v1 v2 refl refl announced)
+          (plain_one (announces (walk_place z v1.known.number i) (target first)) (with_walk i (naming (target first)) v1.known) v1 v2 refl
+          refl announced)
 
       place_is : source_place z v2.known at side ≡ link_place
       place_is = ap (λ (q : PassState W). source_place z q at side) named_known

@@ -57,7 +57,11 @@ each z place low = ⊎_elim
     (λ (some : 1 ≤ place). ⊎_elim
     (λ (early : place < 1 + 5 * z.passes). (walk ((place - 1) / 5) ((place - 1) % 5), (omega arith, omega arith), omega arith))
     (λ (past : 1 + 5 * z.passes ≤ place). ⊎_elim
-    (λ (early : place < 1 + 9 * z.passes). (frontier ((place - 1 - 5 * z.passes) / 4) ((place - 1 - 5 * z.passes) % 4), (omega arith, omega arith), omega arith))
+    (λ (early : place < 1 + 9 * z.passes). (
+      frontier ((place - 1 - 5 * z.passes) / 4) ((place - 1 - 5 * z.passes) % 4),
+      (omega arith, omega arith),
+      omega arith,
+    ))
     (λ (later : 1 + 9 * z.passes ≤ place). ⊎_elim
     (λ (early : place < 1 + 17 * z.passes). (shelf (place - 1 - 9 * z.passes), omega arith, omega arith))
     (λ (above : 1 + 17 * z.passes ≤ place). ⊎_elim

@@ -1,7 +1,8 @@
 //! The places of the words of a pool's table.
 
 ghost use Rattle.std.specs.Prelude.{◌≡◌, ◌+◌, ◌*◌, ◌<◌, ◌≤◌};
-ghost use Rattle.pp_link.specs.Places.{IsWithin, IsNumber, walk_place, frontier_place, shelf_place, head_place, cell_place, total, field_number};
+ghost use Rattle.pp_link.specs.Places.{IsWithin, IsNumber, walk_place, frontier_place, shelf_place, head_place, cell_place, total};
+ghost use Rattle.pp_link.specs.Places.{field_number};
 
 use std::marker::Model;
 

@@ -1,13 +1,10 @@
 -- A part of a turn before its last part.
-use Rattle.std.proofs.Common.{◌≡◌, ℕ, ◌+◌, ◌<◌, ◌≤◌, Bool, true, false, List, length, refl, sym, ap, ◌∙◌, subst, ⊎_elim, arith}
+use Rattle.std.proofs.Common.{◌≡◌, ℕ, ◌+◌, Bool, false, List, sym, ap, ◌∙◌, subst, ⊎_elim, arith}
 use Rattle.std.proofs.Common.{◌≢◌, nat_eq, ne_eqb}
 use Rattle.std.specs.Prelude.{◌||◌}
 use Rattle.pp_link.specs.declared.layout.Sizes.{Sizes}
-use Rattle.pp_model.specs.declared.Answer.{Answer}
-use Rattle.pp_model.specs.declared.Reply.{Reply}
 use Rattle.pp_model.specs.declared.Turned.{Turned}
-use Rattle.pp_model.specs.declared.Turned.TheVariants.{On, Done}
-use Rattle.pp_model.specs.MapCalls.{AnswersCall, IfOn, IfDone}
+use Rattle.pp_model.specs.MapCalls.{Answered}
 use Rattle.pp_base.specs.declared.purse.Purse.{Purse}
 use Rattle.pp_calls.specs.PoolViews.{pool_view}
 use Rattle.pp_calls.specs.Steps.{Stepped, HasOwn, StandsThen}
@@ -17,7 +14,7 @@ use Rattle.pp_lists.specs.Lists.{ListPass}
 use Rattle.pp_lists.specs.Turns.{ListView}
 use Rattle.pp_lists.specs.Losses.{list_reader}
 use Rattle.pp_turns.specs.Tallies.{losing}
-use Rattle.pp_turns.specs.Turns.{Since, Unplaced, Struck}
+use Rattle.pp_turns.specs.Turns.{Since, Unplaced}
 use Rattle.pp_turns.proofs.Placing.{struck_on, unplaced_on}
 use Rattle.pp_turns.proofs.Stretches.{since_on, saw_on, own_before}
 use Rattle.pp_walk.specs.Parts.{GathersNone}
@@ -47,8 +44,8 @@ part_before z share Known Known' g g' v u w p' result first stands quiet each pa
   goes_on = on_by result _ ((from : ListView) (free : List ℕ) → Known from free → IsUnder z share g' w p' from free)
       (λ f from free k. f from free (each from free k)) part.goes_on;
   answered = done_by result _ (λ answer. (from : ListView) (free : List ℕ) → Known from free → StandsThen w
-      → AnswersCall list_meaning (map_sizes z) g.call g.races (pool_view from free share) (pool_view w p'.free.items share) answer)
-      (λ a f from free k stands. f from free (each from free k) stands) part.answered;
+      → Answered list_meaning (map_sizes z) g.call g.races (pool_view from free share) (pool_view w p'.free.items share) answer
+      g'.lost) (λ a f from free k stands. f from free (each from free k) stands) part.answered;
 }
 
 -- what a call tried, with steps that find nothing

@@ -1,11 +1,12 @@
 -- From the end of a walk a call is answered, or comes to its next kind of turn.
-use Rattle.std.proofs.Common.{◌≡◌, ◌≢◌, ◌⊎◌, ℕ, ◌+◌, ◌<◌, ◌≤◌, Bool, true, false, cond, nat_eq, length, List, [], ◌∷◌, refl, sym}
+use Rattle.std.proofs.Common.{◌≡◌, ◌≢◌, ℕ, ◌<◌, Bool, true, false, cond, nat_eq, length, List, [], refl, sym}
 use Rattle.std.proofs.Common.{ap, ◌∙◌, subst, inl, inr, arith}
 use Rattle.std.proofs.Common.{Option, Some, None, eqb-true, eq-eqb, ne_eqb}
-use Rattle.std.specs.Prelude.{◌||◌, not}
+use Rattle.std.specs.Prelude.{not}
 use Rattle.std.proofs.Math.Bool.{false≢true}
+use Rattle.pp_calls.specs.PoolViews.{pool_view}
 use Rattle.pp_link.specs.declared.layout.Sizes.{Sizes}
-use Rattle.pp_link.specs.Links.{target, word_of}
+use Rattle.pp_link.specs.Links.{word_of}
 use Rattle.pp_pool.specs.declared.fresh.Fresh.{Fresh}
 use Rattle.pp_model.specs.declared.Answer.{Answer}
 use Rattle.pp_model.specs.declared.Answer.TheVariants.{Said}
@@ -16,7 +17,7 @@ use Rattle.pp_model.specs.declared.Pair.{Pair}
 use Rattle.pp_model.specs.FiniteMap.{find}
 use Rattle.pp_model.specs.History.{after}
 use Rattle.pp_model.specs.declared.Reply.{Reply}
-use Rattle.pp_model.specs.declared.Reply.TheVariants.{Value, Absent, Added, Held, Took, Other}
+use Rattle.pp_model.specs.declared.Reply.TheVariants.{Value, Absent, Held, Took, Other}
 use Rattle.pp_model.specs.declared.Turned.{Turned}
 use Rattle.pp_model.specs.declared.Turned.TheVariants.{On, Done}
 use Rattle.pp_model.specs.Calls.{key_of, changes, reply_at, Takes, removes, cuts}
@@ -25,20 +26,21 @@ use Rattle.pp_rule.specs.Views.{slot, value_of}
 use Rattle.pp_base.specs.declared.purse.Purse.{Purse}
 use Rattle.pp_base.specs.Named.{NamedStep}
 use Rattle.pp_base.specs.Passes.{IsAtRest}
-use Rattle.pp_calls.specs.Steps.{Stepped, WriteNone}
+use Rattle.pp_calls.specs.Steps.{WriteNone}
 use Rattle.pp_calls.proofs.Growing.{kinds_none, stepped_both, begins_long}
 use Rattle.pp_rule.specs.Lists.{IsIn, BeginsWith}
 use Rattle.pp_rule.proofs.Histories.{log_begins}
 use Rattle.pp_rule.proofs.Put.{in_nil}
 use Rattle.pp_shelf.specs.Runs.{map_sizes, steps_made}
 use Rattle.pp_lists.specs.Lists.{ListPass}
-use Rattle.pp_lists.specs.Walks.{bucket, IsRight}
+use Rattle.pp_lists.specs.Walks.{IsRight}
 use Rattle.pp_lists.specs.Turns.{ListView, EndsPast}
 use Rattle.pp_lists.specs.Losses.{list_reader}
 use Rattle.pp_lists.proofs.Losing.{finds_none}
+use Rattle.pp_turns.proofs.Answering.{told_as}
 use Rattle.pp_turns.specs.Tallies.{losing}
-use Rattle.pp_turns.specs.Turns.{Since, SawLast, Unplaced, WasAbsent, Replied}
-use Rattle.pp_turns.proofs.Placing.{replied_later, unplaced_on, absent_on, after_longer}
+use Rattle.pp_turns.specs.Turns.{Since, Replied}
+use Rattle.pp_turns.proofs.Placing.{replied_later, unplaced_on, after_longer}
 use Rattle.pp_turns.proofs.Purses.{alone_on}
 use Rattle.pp_turns.proofs.Stretches.{since_on, saw_on, steps_named, own_before}
 use Rattle.pp_walk.proofs.Counting.{walks_write_none}
@@ -46,17 +48,19 @@ use Rattle.pp_walk.specs.declared.walk.Found.{Found}
 use Rattle.pp_walk.specs.Effects.{MayFill}
 use Rattle.pp_walk.specs.Roles.{IsFound, IsEnd, at_nil, at_record, HasChain, no_chain, a_chain, found_in, is_look}
 use Rattle.pp_walk.specs.Trod.{Idles}
+use Rattle.pp_list.specs.Meant.{list_meaning}
 use Rattle.pp_list.specs.declared.going.ListGoing.{ListGoing}
 use Rattle.pp_list.specs.declared.going.Next.{Next}
 use Rattle.pp_list.specs.declared.going.Next.TheVariants.{Detaches, Marks, Publishes}
 use Rattle.pp_list.specs.Purses.{HasOut}
-use Rattle.pp_list.specs.Going.{kind_of, is_after, Tries, Inserts, HoldsFirst, Stands, Carries, IsUnder}
+use Rattle.pp_list.specs.Going.{kind_of, is_after, Tries, Inserts, HoldsFirst, Stands, Carries}
 use Rattle.pp_list.specs.Answers.{Calm, SaysBy, Ends}
 use Rattle.pp_list.specs.Turned.{SameGoing, Part, HasArrived, HasEnded}
 use Rattle.pp_list.proofs.Calm.{calm_quiet}
 
 -- what was right at a place stays so
-right_on : (longer log : List Change) (start k : ℕ) (a : Option ℕ) → BeginsWith longer log → IsRight log start k a → IsRight longer start k a
+right_on : (longer log : List Change) (start k : ℕ) (a : Option ℕ) → BeginsWith longer log → IsRight log start k a → IsRight longer start k
+    a
 right_on longer log start k a b r = let long = begins_long longer log b in let within = r.1.1 in
     (r.0, (r.1.0, omega arith, ap (λ (m : List Pair). find m k) (after_longer longer log r.0 b r.1.1) ∙ r.1.2))
 
@@ -89,77 +93,81 @@ carries_idle share call fresh z from v w free p q same k = record {
       } refl;
 }
 
-module _ (z : Sizes) (share : ℕ) (g : ListGoing) (f : Found) (v u : ListView) (p : Purse) (idle : Idles v u) (same : u.known ≡ v.known) where
-  calm : Calm z g.call v u
-  calm = calm_quiet z g.call v u idle
+module _ (z : Sizes) (share : ℕ) (g : ListGoing) (f : Found) (v u : ListView) (p : Purse) (idle : Idles v u) (same : u.known ≡ v.known)
+  where
+    calm : Calm z g.call v u
+    calm = calm_quiet z g.call v u idle
 
-  -- It is answered by a reply that was settled.
-  pub arrived_ends : (w : ListView) (g' : ListGoing) (p' : Purse) (result : Turned) (said : Reply) → SameGoing g g' → g'.struck ≡ false
-      → g.lost < g.races → reply_at g.call (found_in v.known f) ≡ said → changes said ≡ false → result ≡ Done (Said said)
-      → Ends z share g.races g.call g.fresh (Said said) u w p p'
-      → Part z share (HasArrived z share g f v p) g g' v w p' result
-  arrived_ends w g' p' result said same_going none few is plain done e =
-      subst (λ (r : Turned). Part z share (HasArrived z share g f v p) g g' v w p' r) (sym done) record {
-        stepped = stepped_both v u w calm.stepped e.calm.stepped;
-        stands = λ own stands. e.calm.stands own (calm.stands (own_before u w e.calm.stepped own) stands);
-        same = same_going;
-        strikes = λ now. absurd (false≢true (sym none ∙ now));
-        struck = none ∙ sym plain;
-        advances = tt;
-        goes_on = tt;
-        answered = λ from free k stands. let r = calm.losing_so k.memory g.lost in
-            let on = since_on list_reader (map_sizes z) g.call v.known.own.start (losing k.memory g.lost) (losing r.0 g.lost) from v u k.since r.1 in
-            let c = carries_idle share g.call g.fresh z from v u free p idle same k.carries in
-            let settled = subst (λ (s : Reply). Replied g.call s v.known.own.start from v) is (k.settled (ap changes is ∙ plain)) in
-            e.answered from free record {
-              by = subst (λ (b : Bool). SaysBy b z g.races g.call said from u) (sym plain) record {
-                start = v.known.own.start;
-                memory = r.0;
-                lost = g.lost;
-                since = on;
-                few = few;
-                replied = replied_later g.call said v.known.own.start from v u k.since.went.number calm.stepped.order settled calm.unplaced;
-              };
-              last = saw_on from v u k.since.went k.last calm.stepped;
-              sizes = c.sizes;
-              kept = let few = c.kept in omega arith;
-              alone = c.alone;
-            } stands;
-      }
+    -- It is answered by a reply that was settled.
+    pub arrived_ends : (w : ListView) (g' : ListGoing) (p' : Purse) (result : Turned) (said : Reply) → SameGoing g g' → g'.lost ≡ g.lost
+        → g'.struck ≡ false → g.lost < g.races → reply_at g.call (found_in v.known f) ≡ said → changes said ≡ false
+        → result ≡ Done (Said said)
+        → Ends z share g.races g.call g.fresh (Said said) u w p p'
+        → Part z share (HasArrived z share g f v p) g g' v w p' result
+    arrived_ends w g' p' result said same_going lost_still none few is plain done e =
+        subst (λ (r : Turned). Part z share (HasArrived z share g f v p) g g' v w p' r) (sym done) record {
+          stepped = stepped_both v u w calm.stepped e.calm.stepped;
+          stands = λ own stands. e.calm.stands own (calm.stands (own_before u w e.calm.stepped own) stands);
+          same = same_going;
+          strikes = λ now. absurd (false≢true (sym none ∙ now));
+          struck = none ∙ sym plain;
+          advances = tt;
+          goes_on = tt;
+          answered = λ from free k stands. let r = calm.losing_so k.memory g.lost in
+              let on = since_on list_reader (map_sizes z) g.call v.known.own.start (losing k.memory g.lost) (losing r.0 g.lost) from v u
+              k.since r.1 in
+              let c = carries_idle share g.call g.fresh z from v u free p idle same k.carries in
+              let settled = subst (λ (s : Reply). Replied g.call s v.known.own.start from v) is (k.settled (ap changes is ∙ plain)) in
+              told_as list_meaning (map_sizes z) g.call g.races (pool_view from free share) (pool_view w p'.free.items share) (Said said)
+              g.lost g'.lost (sym lost_still) (e.answered from free g.lost record {
+                by = subst (λ (b : Bool). SaysBy b z g.races g.call said g.lost from u) (sym plain) record {
+                  start = v.known.own.start;
+                  memory = r.0;
+                  since = on;
+                  few = few;
+                  replied = replied_later g.call said v.known.own.start from v u k.since.went.number calm.stepped.order settled calm.unplaced;
+                };
+                last = saw_on from v u k.since.went k.last calm.stepped;
+                sizes = c.sizes;
+                kept = let few = c.kept in omega arith;
+                alone = c.alone;
+              } stands);
+        }
 
-  -- It comes to its next kind of turn.
-  pub arrived_opens : (n : Next) → kind_of g.next < kind_of n → is_after n ≡ false → HasEnded z g v.known p f
-      → changes (reply_at g.call (found_in v.known f)) ≡ true
-      → ((from : ListView) → Tries z g.call g.lost from u
-      → IsRight (log_of u.order) u.known.own.start (key_of g.call) (found_in v.known f) → Stands z g.call g.races g.lost n from u)
-      → Part z share (HasArrived z share g f v p) g (record g { next = n }) v u p On
-  arrived_opens n later early ended opens each = record {
-    stepped = calm.stepped;
-    stands = calm.stands;
-    same = record { head = refl; call = refl; races = refl };
-    strikes = λ now. absurd (false≢true (sym ended.unstruck ∙ now));
-    struck = tt;
-    advances = inr (refl, later);
-    goes_on = λ from free k. let r = calm.losing_so k.memory g.lost in let o = k.opened opens in
-        let on = since_on list_reader (map_sizes z) g.call v.known.own.start (losing k.memory g.lost) (losing r.0 g.lost) from v u k.since r.1 in
-        let start : u.known.own.start ≡ v.known.own.start = ap (λ (x : ListPass). x.own.start) same in
-        record {
-          low = ended.low;
-          home = ended.home;
-          below = ended.below;
-          struck = ended.unstruck ∙ sym early;
-          rest = subst (λ (x : ListPass). IsAtRest x p) (sym same) ended.rest;
-          carries = carries_idle share g.call g.fresh z from v u free p idle same k.carries;
-          stands = each from record {
-            memory = r.0;
-            since = subst (λ (s : ℕ). Since list_reader (map_sizes z) g.call s (losing r.0 g.lost) from u) (sym start) on;
-            unplaced = unplaced_on from v u k.since.went.number o.0 calm.unplaced;
-          } (subst (λ (s : ℕ). IsRight (log_of u.order) s (key_of g.call) (found_in v.known f)) (sym start)
-              (right_on (log_of u.order) (log_of v.order) v.known.own.start (key_of g.call) (found_in v.known f)
-              (log_begins u.order v.order calm.stepped.order) o.1));
-        };
-    answered = tt;
-  }
+    -- It comes to its next kind of turn.
+    pub arrived_opens : (n : Next) → kind_of g.next < kind_of n → is_after n ≡ false → HasEnded z g v.known p f
+        → changes (reply_at g.call (found_in v.known f)) ≡ true
+        → ((from : ListView) → Tries z g.call g.lost from u
+        → IsRight (log_of u.order) u.known.own.start (key_of g.call) (found_in v.known f) → Stands z g.call g.races g.lost n from u)
+        → Part z share (HasArrived z share g f v p) g (record g { next = n }) v u p On
+    arrived_opens n later early ended opens each = record {
+      stepped = calm.stepped;
+      stands = calm.stands;
+      same = record { head = refl; call = refl; races = refl };
+      strikes = λ now. absurd (false≢true (sym ended.unstruck ∙ now));
+      struck = tt;
+      advances = inr (refl, later);
+      goes_on = λ from free k. let r = calm.losing_so k.memory g.lost in let o = k.opened opens in
+          let on = since_on list_reader (map_sizes z) g.call v.known.own.start (losing k.memory g.lost) (losing r.0 g.lost) from v u k.since
+          r.1 in
+          let start : u.known.own.start ≡ v.known.own.start = ap (λ (x : ListPass). x.own.start) same in
+          record {
+            low = ended.low;
+            home = ended.home;
+            below = ended.below;
+            struck = ended.unstruck ∙ sym early;
+            rest = subst (λ (x : ListPass). IsAtRest x p) (sym same) ended.rest;
+            carries = carries_idle share g.call g.fresh z from v u free p idle same k.carries;
+            stands = each from record {
+              memory = r.0;
+              since = subst (λ (s : ℕ). Since list_reader (map_sizes z) g.call s (losing r.0 g.lost) from u) (sym start) on;
+              unplaced = unplaced_on from v u k.since.went.number o.0 calm.unplaced;
+            } (subst (λ (s : ℕ). IsRight (log_of u.order) s (key_of g.call) (found_in v.known f)) (sym start)
+                (right_on (log_of u.order) (log_of v.order) v.known.own.start (key_of g.call) (found_in v.known f)
+                (log_begins u.order v.order calm.stepped.order) o.1));
+          };
+      answered = tt;
+    }
 
 -- what a walk found, by what it tells
 pub found_absent : (q : ListPass) (f : Found) → f.equal ≡ false → found_in q f ≡ None
@@ -244,7 +252,8 @@ over_same g g' n h is = record { head = ap (λ x. x.head) is; call = ap (λ x. x
 pub ends_as : (z : Sizes) (share share' races : ℕ) (call : Call) (fresh : Option Fresh) (answer : Answer) (v w : ListView) (p q p' : Purse)
     → share' ≡ share → q ≡ p → Ends z share' races call fresh answer v w q p' → Ends z share races call fresh answer v w p p'
 ends_as z share share' races call fresh answer v w p q p' same purse e =
-    subst (λ (n : ℕ). Ends z n races call fresh answer v w p p') same (subst (λ (r : Purse). Ends z share' races call fresh answer v w r p') purse e)
+    subst (λ (n : ℕ). Ends z n races call fresh answer v w p p') same (subst (λ (r : Purse). Ends z share' races call fresh answer v w r p')
+    purse e)
 
 pub not_so : (b : Bool) → not b ≡ true → b ≡ false
 not_so true e = absurd (false≢true e)
@@ -303,7 +312,13 @@ module _ (z : Sizes) (share : ℕ) (g : ListGoing) (f : Found) (v u : ListView) 
         (
           subst (λ (q : ListPass). IsFound z q g.call f) (sym same) ended.found,
           subst (λ (q : ListPass). (f.equal ≡ true) × (q.own.going ≡ true) × (f.word < 5) × ((slot q f.word).held ≡ true)
-              × Takes g.call (slot q f.word).key (value_of (slot q f.word).value)) (sym same) (has_key, ended.goes opens, at.low, at.held, takes),
+              × Takes g.call (slot q f.word).key (value_of (slot q f.word).value)) (sym same) (
+                has_key,
+                ended.goes opens,
+                at.low,
+                at.held,
+                takes,
+              ),
         ),
       ))
 
@@ -321,7 +336,8 @@ remove_takes call k key y is same = subst (λ (c : Call). Takes c key y) (sym is
 pub cut_absent : (call : Call) (k x : ℕ) (a : Option ℕ) → call ≡ Cut k x → a ≡ None → reply_at call a ≡ Absent
 cut_absent call k x a is e = ap (λ (c : Call). reply_at c a) is ∙ ap (reply_at (Cut k x)) e
 
-cut_at : (call : Call) (k x : ℕ) (a : Option ℕ) (y : ℕ) → call ≡ Cut k x → a ≡ Some y → reply_at call a ≡ cond (nat_eq y x) (Took y) (Other y)
+cut_at : (call : Call) (k x : ℕ) (a : Option ℕ) (y : ℕ) → call ≡ Cut k x → a ≡ Some y → reply_at call a ≡ cond (nat_eq y x) (Took y)
+    (Other y)
 cut_at call k x a y is e = ap (λ (c : Call). reply_at c a) is ∙ ap (reply_at (Cut k x)) e
 
 pub cut_other : (call : Call) (k x : ℕ) (a : Option ℕ) (y : ℕ) → call ≡ Cut k x → a ≡ Some y → y ≢ x → reply_at call a ≡ Other y

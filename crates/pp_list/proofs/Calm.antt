@@ -1,27 +1,26 @@
 -- Steps that count for nothing in a call.
-use Rattle.std.proofs.Common.{◌≡◌, ℕ, ◌+◌, Bool, true, false, List, [], ◌∷◌, ◌++◌, map, length, refl, sym, ap, ◌∙◌, subst}
-use Rattle.std.proofs.Common.{append_assoc, append-nil, arith}
+use Rattle.std.proofs.Common.{◌≡◌, ℕ, ◌+◌, Bool, true, false, List, ◌++◌, refl, sym, ap, ◌∙◌}
+use Rattle.std.proofs.Common.{append_assoc, arith}
 use Rattle.std.specs.Prelude.{◌||◌, ◌&&◌, nat_eq, not}
 use Rattle.pp_link.specs.declared.layout.Sizes.{Sizes}
 use Rattle.pp_model.specs.declared.Call.{Call}
 use Rattle.pp_model.specs.declared.steps.Step.{Step}
 use Rattle.pp_rule.specs.Causes.{memory_after}
-use Rattle.pp_rule.specs.Lists.{IsIn}
-use Rattle.pp_base.specs.Named.{NamedStep, name_of, Made}
+use Rattle.pp_base.specs.Named.{NamedStep, Made}
 use Rattle.pp_calls.specs.PoolViews.{is_writing}
 use Rattle.pp_calls.proofs.Growing.{stepped_both, stepped_made}
 use Rattle.pp_calls.proofs.Remaining.{stands_made}
 use Rattle.pp_shelf.specs.Runs.{map_sizes, steps_made}
 use Rattle.pp_lists.specs.Turns.{ListView}
 use Rattle.pp_lists.specs.Losses.{is_effect, has_flag, list_reader, finds as finds_in}
-use Rattle.pp_turns.specs.Tallies.{Tally, losing, effected}
+use Rattle.pp_turns.specs.Tallies.{losing, effected}
 use Rattle.pp_turns.specs.Turns.{Ran}
 use Rattle.pp_turns.specs.Causes.{Aside}
 use Rattle.pp_turns.proofs.Aside.{counts_losing, counts_effected}
 use Rattle.pp_turns.proofs.Placing.{unplaced_made, unplaced_on}
 use Rattle.pp_turns.proofs.Stretches.{ran_both, ran_as, own_before, stretch_both, steps_named}
 use Rattle.pp_walk.proofs.Counting.{walks_write_none}
-use Rattle.pp_walk.specs.Trod.{Idles, Quiet, WriteNoLink, StrikeNone, FindSo}
+use Rattle.pp_walk.specs.Trod.{Idles, WriteNoLink, StrikeNone}
 use Rattle.pp_list.specs.Answers.{Calm}
 use Rattle.pp_list.proofs.Reading.{list_over, named_losing, named_later}
 
@@ -35,7 +34,8 @@ neither false b e = (refl, e)
 kind_effect : (k place word : ℕ) → is_writing k ≡ false → is_effect (record { kind = k; place = place; word = word }) ≡ false
 kind_effect k place word none =
     let rest : ℕ → Bool = λ j. nat_eq k j in
-    let a = neither (rest 1) (rest 10 || (rest 11 || (rest 12 || (rest 17 || (rest 18 || (rest 20 || (rest 21 || (rest 22 || rest 23)))))))) none in
+    let a = neither (rest 1) (rest 10 || (rest 11 || (rest 12 || (rest 17 || (rest 18 || (rest 20 || (rest 21 || (rest 22 || rest 23))))))))
+    none in
     let b = neither (rest 10) (rest 11 || (rest 12 || (rest 17 || (rest 18 || (rest 20 || (rest 21 || (rest 22 || rest 23))))))) a.1 in
     let c = neither (rest 11) (rest 12 || (rest 17 || (rest 18 || (rest 20 || (rest 21 || (rest 22 || rest 23)))))) b.1 in
     let d = neither (rest 12) (rest 17 || (rest 18 || (rest 20 || (rest 21 || (rest 22 || rest 23))))) c.1 in

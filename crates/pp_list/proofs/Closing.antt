@@ -1,7 +1,7 @@
 -- A call on a list that is ended meets its clauses.
-use Rattle.std.proofs.Common.{◌≡◌, ◌⊎◌, ℕ, ◌+◌, ◌-◌, ◌*◌, ◌<◌, ◌≤◌, min, Bool, true, false, cond, List, [], ◌∷◌, ◌++◌, map}
+use Rattle.std.proofs.Common.{◌≡◌, ℕ, ◌+◌, ◌-◌, ◌≤◌, Bool, true, false, cond, List, [], ◌∷◌, ◌++◌, map}
 use Rattle.std.proofs.Common.{length, refl, sym, ap, ◌∙◌}
-use Rattle.std.proofs.Common.{subst, ⊎_elim, inl, inr, Option, Some, None, append_assoc, length-append, arith}
+use Rattle.std.proofs.Common.{subst, ⊎_elim, inl, inr, Option, append_assoc, length-append, arith}
 use Rattle.pp_link.specs.declared.layout.Sizes.{Sizes}
 use Rattle.pp_pool.specs.declared.fresh.Fresh.{Fresh}
 use Rattle.pp_model.specs.declared.Answer.{Answer}
@@ -9,13 +9,11 @@ use Rattle.pp_model.specs.declared.Answer.TheVariants.{Said, Full, Lost}
 use Rattle.pp_model.specs.declared.Call.{Call}
 use Rattle.pp_model.specs.declared.Call.TheVariants.{Get, Insert, Remove, Cut}
 use Rattle.pp_model.specs.declared.Reply.{Reply}
-use Rattle.pp_model.specs.declared.Reply.TheVariants.{Took}
 use Rattle.pp_model.specs.declared.steps.Step.{Step}
 use Rattle.pp_model.specs.declared.steps.OrderEntry.{OrderEntry}
 use Rattle.pp_model.specs.declared.Change.{Change}
 use Rattle.pp_model.specs.Calls.{changes}
-use Rattle.pp_model.specs.Lists.{IsPrefix}
-use Rattle.pp_model.specs.MapCalls.{LeftAlone, LeavesPurse, Tidied, AnswersCall}
+use Rattle.pp_model.specs.MapCalls.{LeftAlone, LeavesPurse, Tidied, Answered}
 use Rattle.pp_model.specs.Pass.{MapSizes, steps_of, replayed}
 use Rattle.pp_rule.specs.Causes.{WasDetached}
 use Rattle.pp_rule.specs.Lists.{IsIn}
@@ -30,9 +28,8 @@ use Rattle.pp_calls.proofs.Growing.{kinds_none, went_on}
 use Rattle.pp_shelf.specs.Runs.{map_sizes, steps_made}
 use Rattle.pp_lists.specs.Turns.{ListView}
 use Rattle.pp_lists.specs.Losses.{is_effect, list_reader}
-use Rattle.pp_purse.specs.Purses.{TidiesPurse}
 use Rattle.pp_turns.specs.Tallies.{Tally, losing, effected, tally, lost_at}
-use Rattle.pp_turns.specs.Turns.{Ran, Since, Unplaced, Struck, Replied, SawLast, Kept}
+use Rattle.pp_turns.specs.Turns.{Since, SawLast, Kept}
 use Rattle.pp_turns.specs.Causes.{TookBy}
 use Rattle.pp_turns.proofs.Aside.{aside_at_purse}
 use Rattle.pp_turns.proofs.Answering.{says_plain, says_struck, gave_up}
@@ -41,11 +38,10 @@ use Rattle.pp_turns.proofs.Purses.{alone_on, tidied}
 use Rattle.pp_turns.proofs.Stretches.{since_on, saw_on, steps_both, stepped_steps, steps_named}
 use Rattle.pp_walk.proofs.Counting.{walks_write_none}
 use Rattle.pp_walk.specs.Roles.{is_look}
-use Rattle.pp_walk.specs.Trod.{Idles}
 use Rattle.pp_list.specs.Causes.{list_causes, taken_by, effect_place, number_at, IsListed, ListLeftBy}
 use Rattle.pp_list.specs.Meant.{list_words, list_meaning, HoldsPairs}
 use Rattle.pp_list.specs.Purses.{LooksAway, TidiesUp, out_of}
-use Rattle.pp_list.specs.Answers.{Calm, Leaves, SaysPlain, SaysStruck, GivesUp, SaysBy, AnswersBy, spends_of, MayEnd, Ends}
+use Rattle.pp_list.specs.Answers.{Calm, Leaves, SaysPlain, SaysStruck, GivesUp, SaysBy, AnswersBy, spends_of, Ends}
 use Rattle.pp_list.proofs.Calm.{calm_quiet, calm_aside, calm_both}
 
 -- What ends a call counts for nothing in it.
@@ -64,14 +60,16 @@ module _ (z : Sizes) (share : ℕ) (fresh : Option Fresh) (from v w : ListView) 
   -- the purse of a call that changes its list
   tidies : (spends : ℕ) → TidiesUp z share fresh v w p p' → Kept free share p.free.items (out_of fresh + spends)
       → length w.known.chains ≤ 4 → Tidied list_meaning (map_sizes z) spends (pool_view from free share) (pool_view w p'.free.items share)
-  tidies spends t kept four = subst (λ (f : List ℕ). Tidied list_meaning (map_sizes z) spends (pool_view from free share) (pool_view w f share))
+  tidies spends t kept four = subst (λ (f : List ℕ). Tidied list_meaning (map_sizes z) spends (pool_view from free share)
+      (pool_view w f share))
       (sym (ap (λ f. f.items) t.free))
       (tidied list_meaning z refl from t.between w free share spends t.middle t.last (λ steps f. f)
       (went_on from v t.between went (calm_quiet z (Get 0) v t.between t.idles).stepped)
       (aside_at_purse z t.tidies.names t.between w t.tidies.steps).stepped t.tidies (let l = t.long in omega arith) four)
 
   -- what a call leaves of its purse
-  pub leaves_purse : (call : Call) → Leaves (is_look call) z share fresh v w p p' → Kept free share p.free.items (out_of fresh + spends_of call)
+  pub leaves_purse : (call : Call) → Leaves (is_look call) z share fresh v w p p' → Kept free share p.free.items
+      (out_of fresh + spends_of call)
       → (is_look call ≡ true → LeftAlone (pool_view from free share) (pool_view v p.free.items share)) → length w.known.chains ≤ 4
       → LeavesPurse list_meaning (map_sizes z) call (pool_view from free share) (pool_view w p'.free.items share)
   leaves_purse (Get k) l kept alone four = alone_on from v w free p.free.items p'.free.items share (alone refl)
@@ -107,12 +105,14 @@ module _ (z : Sizes) (call : Call) (races start : ℕ) (from v w : ListView) (m 
     where
       same : taken_by (map_sizes z) call (steps_made from w) ≡ taken_by (map_sizes z) call (steps_made from v)
       same = ap (λ (l : List Step). number_at (map_sizes z) (effect_place (map name_of l))) (steps_both from v w since.went s)
-          ∙ ap (number_at (map_sizes z)) (effect_front call (map_sizes z) [] 0 lost early m later (steps_made from v) (steps_made v w) since.read)
+          ∙ ap (number_at (map_sizes z)) (effect_front call (map_sizes z) [] 0 lost early m later (steps_made from v) (steps_made v w)
+          since.read)
 
       Gone : ℕ → ℕ → ℕ → List (OrderEntry Change) → Type 0
       Gone n own p order = WasDetached (IsListed (map_sizes z)) (list_words.opening (map_sizes z)) n own p order
 
-      detached : Gone (taken_by (map_sizes z) call (steps_made from v)) (length (made_by v.known.number v.order) - length later) v.known.number
+      detached : Gone (taken_by (map_sizes z) call (steps_made from v)) (length (made_by v.known.number v.order) - length later)
+          v.known.number
           (entries_of v.order)
           → Gone (taken_by (map_sizes z) call (steps_made from w)) (length (made_by w.known.number w.order)
           - length (later ++ steps_made v w)) w.known.number (entries_of w.order)
@@ -121,7 +121,8 @@ module _ (z : Sizes) (call : Call) (races start : ℕ) (from v w : ListView) (m 
         begins = (
           d.begins.0 ++ entries_of s.order.0,
           ap entries_of s.order.1 ∙ (entries_append v.order s.order.0
-              ∙ (ap (λ (l : List (OrderEntry Change)). l ++ entries_of s.order.0) d.begins.1 ∙ append_assoc d.so_far d.begins.0 (entries_of s.order.0))),
+              ∙ (ap (λ (l : List (OrderEntry Change)). l ++ entries_of s.order.0) d.begins.1 ∙ append_assoc d.so_far d.begins.0
+              (entries_of s.order.0))),
         );
         since = let n : ℕ = v.known.number in let was = d.since in
             let all : length (made_by w.known.number w.order) ≡ length (made_by n v.order) + length s.steps =
@@ -143,28 +144,28 @@ module _ (z : Sizes) (share races : ℕ) (call : Call) (fresh : Option Fresh) (v
   module _ (from : ListView) (free : List ℕ) (stands : StandsThen w) (all_sizes : v.known.sizes ≡ from.known.sizes)
       (last : SawLast from v) (kept : Kept free share p.free.items (out_of fresh + spends_of call))
       (alone : is_look call ≡ true → LeftAlone (pool_view from free share) (pool_view v p.free.items share)) where
-    plain : (said : Reply) → changes said ≡ false → SaysPlain z races call said from v
-        → AnswersCall list_meaning (map_sizes z) call races (pool_view from free share) (pool_view w p'.free.items share) (Said said)
-    plain said unchanged b = let r = calm.losing_so b.memory b.lost in
-        let on = since_on list_reader (map_sizes z) call b.start (losing b.memory b.lost) (losing r.0 b.lost) from v w b.since r.1 in
-        says_plain list_words list_causes HoldsPairs (map_sizes z) call races from w free p'.free.items share b.start (losing r.0 b.lost) on
+    plain : (said : Reply) (lost : ℕ) → changes said ≡ false → SaysPlain z races call said lost from v
+        → Answered list_meaning (map_sizes z) call races (pool_view from free share) (pool_view w p'.free.items share) (Said said) lost
+    plain said lost unchanged b = let r = calm.losing_so b.memory lost in
+        let on = since_on list_reader (map_sizes z) call b.start (losing b.memory lost) (losing r.0 lost) from v w b.since r.1 in
+        says_plain list_words list_causes HoldsPairs (map_sizes z) call races from w free p'.free.items share b.start (losing r.0 lost) on
         (saw_on from v w b.since.went last calm.stepped) (sizes ∙ all_sizes) stands said
         (replied_later call said b.start from v w b.since.went.number calm.stepped.order b.replied calm.unplaced) b.few
         (leaves_purse z share fresh from v w free p p' b.since.went call l kept alone four)
 
-    struck : (said : Reply) → SaysStruck z races call said from v
-        → AnswersCall list_meaning (map_sizes z) call races (pool_view from free share) (pool_view w p'.free.items share) (Said said)
-    struck said b = let r = calm.effected_so b.memory b.lost b.early b.later in
-        let t' : Tally (List NamedStep) = effected r.0 b.lost b.early (b.later ++ steps_made v w) in
-        let on = since_on list_reader (map_sizes z) call b.start (effected b.memory b.lost b.early b.later) t' from v w b.since r.1 in
+    struck : (said : Reply) (lost : ℕ) → SaysStruck z races call said lost from v
+        → Answered list_meaning (map_sizes z) call races (pool_view from free share) (pool_view w p'.free.items share) (Said said) lost
+    struck said lost b = let r = calm.effected_so b.memory lost b.early b.later in
+        let t' : Tally (List NamedStep) = effected r.0 lost b.early (b.later ++ steps_made v w) in
+        let on = since_on list_reader (map_sizes z) call b.start (effected b.memory lost b.early b.later) t' from v w b.since r.1 in
         says_struck list_words list_causes HoldsPairs (map_sizes z) call races from w free p'.free.items share b.start t' on
         (saw_on from v w b.since.went last calm.stepped) (sizes ∙ all_sizes) stands said
         (struck_later call said from v w b.since.went.number calm.stepped.order b.struck calm.unplaced) b.few
-        (λ x is. took_on z call races b.start from v w b.memory r.0 b.lost b.early b.later b.since calm.stepped (b.took x is))
+        (λ x is. took_on z call races b.start from v w b.memory r.0 lost b.early b.later b.since calm.stepped (b.took x is))
         (leaves_purse z share fresh from v w free p p' b.since.went call l kept alone four)
 
     gives_up : (turns : ℕ) → GivesUp z races call turns from v
-        → AnswersCall list_meaning (map_sizes z) call races (pool_view from free share) (pool_view w p'.free.items share) (Lost turns)
+        → Answered list_meaning (map_sizes z) call races (pool_view from free share) (pool_view w p'.free.items share) (Lost turns) turns
     gives_up turns b = let r = calm.losing_so b.memory turns in
         let on = since_on list_reader (map_sizes z) call b.start (losing b.memory turns) (losing r.0 turns) from v w b.since r.1 in
         gave_up list_words list_causes HoldsPairs (map_sizes z) call races from w free p'.free.items share b.start (losing r.0 turns) on
@@ -172,19 +173,20 @@ module _ (z : Sizes) (share races : ℕ) (call : Call) (fresh : Option Fresh) (v
         (unplaced_on from v w b.since.went.number b.unplaced calm.unplaced) refl refl b.all
         (leaves_purse z share fresh from v w free p p' b.since.went call l kept alone four)
 
-    answers : (answer : Answer) → AnswersBy z races call answer from v
-        → AnswersCall list_meaning (map_sizes z) call races (pool_view from free share) (pool_view w p'.free.items share) answer
-    answers (Said r) b = by (changes r) refl b
+    answers : (answer : Answer) (lost : ℕ) → AnswersBy z races call answer lost from v
+        → Answered list_meaning (map_sizes z) call races (pool_view from free share) (pool_view w p'.free.items share) answer lost
+    answers (Said r) lost b = by (changes r) refl b
       where
-        by : (c : Bool) → changes r ≡ c → SaysBy c z races call r from v
-            → AnswersCall list_meaning (map_sizes z) call races (pool_view from free share) (pool_view w p'.free.items share) (Said r)
-        by true is b = struck r b
-        by false is b = plain r is b
-    answers Full b = absurd b
-    answers (Lost turns) b = gives_up turns b
+        by : (c : Bool) → changes r ≡ c → SaysBy c z races call r lost from v
+            → Answered list_meaning (map_sizes z) call races (pool_view from free share) (pool_view w p'.free.items share) (Said r) lost
+        by true is b = struck r lost b
+        by false is b = plain r lost is b
+    answers Full lost b = absurd b
+    answers (Lost turns) lost b = subst (λ (n : ℕ). Answered list_meaning (map_sizes z) call races (pool_view from free share)
+        (pool_view w p'.free.items share) (Lost turns) n) b.1 (gives_up turns b.0)
 
   pub ended : (answer : Answer) → Ends z share races call fresh answer v w p p'
   ended answer = record {
     calm = calm;
-    answered = λ from free m stands. answers from free stands m.sizes m.last m.kept m.alone answer m.by;
+    answered = λ from free lost m stands. answers from free stands m.sizes m.last m.kept m.alone answer lost m.by;
   }

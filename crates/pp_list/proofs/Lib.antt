@@ -14,3 +14,6 @@ pub mod Marking
 pub mod Unlinking
 pub mod Publishing
 pub mod Taken
+pub mod Alone
+pub mod LoneDetaches
+pub mod LoneGoing

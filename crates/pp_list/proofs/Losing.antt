@@ -1,15 +1,12 @@
 -- A turn of a call on a list that was lost.
-use Rattle.std.proofs.Common.{◌≡◌, ℕ, ◌+◌, ◌<◌, ◌≤◌, Bool, true, false, List, length, map, refl, sym, ap, ◌∙◌, subst, inl, arith, Option}
+use Rattle.std.proofs.Common.{◌≡◌, ℕ, ◌+◌, ◌<◌, ◌≤◌, Bool, true, false, List, length, map, refl, sym, ap, ◌∙◌, subst, inl, arith}
 use Rattle.std.proofs.lemmas.List.{length-map}
 use Rattle.std.proofs.Math.Bool.{false≢true}
 use Rattle.pp_link.specs.declared.layout.Sizes.{Sizes}
-use Rattle.pp_pool.specs.declared.fresh.Fresh.{Fresh}
-use Rattle.pp_model.specs.declared.Answer.{Answer}
 use Rattle.pp_model.specs.declared.Answer.TheVariants.{Lost}
 use Rattle.pp_model.specs.declared.Turned.{Turned}
 use Rattle.pp_model.specs.declared.Turned.TheVariants.{On, Done}
 use Rattle.pp_model.specs.Calls.{key_of}
-use Rattle.pp_rule.specs.declared.views.Chain.{Chain}
 use Rattle.pp_base.specs.declared.purse.InHand.{InHand}
 use Rattle.pp_base.specs.declared.purse.Purse.{Purse}
 use Rattle.pp_base.specs.Passes.{IsAtRest, in_hand_of}
@@ -21,9 +18,8 @@ use Rattle.pp_walk.specs.declared.walk.Walk.{Walk}
 use Rattle.pp_walk.specs.Roles.{IsWalk}
 use Rattle.pp_list.specs.declared.going.ListGoing.{ListGoing}
 use Rattle.pp_list.specs.declared.going.Next.TheVariants.{Walks}
-use Rattle.pp_list.specs.Purses.{out_of}
-use Rattle.pp_list.specs.Going.{Begun, Tries, IsUnder}
-use Rattle.pp_list.specs.Answers.{Ends, MayEnd, spends_of}
+use Rattle.pp_list.specs.Going.{Begun, Tries}
+use Rattle.pp_list.specs.Answers.{Ends}
 use Rattle.pp_list.specs.Turned.{SameGoing, Part, HasLost}
 
 -- a pass has as many chains in hand as its purse knows
@@ -60,28 +56,32 @@ module _ (z : Sizes) (share : ℕ) (g : ListGoing) (v : ListView) (p : Purse) (u
   }
 
   -- It gave up.
-  pub lost_ends : (g' : ListGoing) (w : ListView) (p' : Purse) (result : Turned) → SameGoing g g' → g'.struck ≡ false
-      → g.lost + 1 ≡ g.races → result ≡ Done (Lost (g.lost + 1))
+  pub lost_ends : (g' : ListGoing) (w : ListView) (p' : Purse) (result : Turned) → SameGoing g g' → g'.lost ≡ g.lost + 1
+      → g'.struck ≡ false → g.lost + 1 ≡ g.races → result ≡ Done (Lost (g.lost + 1))
       → Ends z share g.races g.call g.fresh (Lost (g.lost + 1)) v w p p' → Part z share (HasLost z share g v p) g g' v w p' result
-  lost_ends g' w p' result same none all is e = subst (λ (r : Turned). Part z share (HasLost z share g v p) g g' v w p' r) (sym is) record {
-    stepped = e.calm.stepped;
-    stands = e.calm.stands;
-    same = same;
-    strikes = λ now. absurd (false≢true (sym none ∙ now));
-    struck = none;
-    advances = tt;
-    goes_on = tt;
-    answered = λ from free k stands. e.answered from free record {
-      by = record {
-        start = v.known.own.start;
-        memory = k.tries.memory;
-        since = k.tries.since;
-        all = all;
-        unplaced = k.tries.unplaced;
-      };
-      last = k.last;
-      sizes = k.carries.sizes;
-      kept = let few = k.carries.kept in omega arith;
-      alone = k.carries.alone;
-    } stands;
-  }
+  lost_ends g' w p' result same lost_now none all is e =
+      subst (λ (r : Turned). Part z share (HasLost z share g v p) g g' v w p' r) (sym is) record {
+        stepped = e.calm.stepped;
+        stands = e.calm.stands;
+        same = same;
+        strikes = λ now. absurd (false≢true (sym none ∙ now));
+        struck = none;
+        advances = tt;
+        goes_on = tt;
+        answered = λ from free k stands. e.answered from free g'.lost record {
+          by = (
+            record {
+              start = v.known.own.start;
+              memory = k.tries.memory;
+              since = k.tries.since;
+              all = all;
+              unplaced = k.tries.unplaced;
+            },
+            sym lost_now,
+          );
+          last = k.last;
+          sizes = k.carries.sizes;
+          kept = let few = k.carries.kept in omega arith;
+          alone = k.carries.alone;
+        } stands;
+      }

@@ -1,55 +1,52 @@
 -- The turn in which a remove or a cut marks its record.
-use Rattle.std.proofs.Common.{◌≡◌, ◌≢◌, ◌⊎◌, ℕ, ◌+◌, ◌-◌, ◌*◌, ◌/◌, ◌<◌, ◌≤◌, Bool, true, false, cond, nat_eq, List, [], ◌∷◌}
+use Rattle.std.proofs.Common.{◌≡◌, ◌≢◌, ℕ, ◌+◌, ◌<◌, ◌≤◌, Bool, true, false, cond, nat_eq, List, [], ◌∷◌}
 use Rattle.std.proofs.Common.{◌++◌, map, length, refl, sym, ap, ◌∙◌}
-use Rattle.std.proofs.Common.{subst, inl, inr, ⊎_elim, Option, Some, None, arith, ne_eqb, append_assoc, length-append}
+use Rattle.std.proofs.Common.{subst, arith, ne_eqb, length-append}
 use Rattle.std.specs.Prelude.{◌||◌, ◌&&◌, not, nat_lt, bit_or}
 use Rattle.std.proofs.Math.Bool.{false≢true}
 use Rattle.pp_link.specs.declared.layout.Sizes.{Sizes}
 use Rattle.pp_link.specs.Links.{word_of, target, flag_bit}
 use Rattle.pp_link.specs.Places.{cell_place, IsNumber}
 use Rattle.pp_model.specs.declared.Call.{Call}
-use Rattle.pp_model.specs.declared.Call.TheVariants.{Get, Insert, Remove, Cut}
-use Rattle.pp_model.specs.declared.Placed.{Placed}
 use Rattle.pp_model.specs.declared.Reply.TheVariants.{Took}
 use Rattle.pp_model.specs.declared.Turned.TheVariants.{On}
 use Rattle.pp_model.specs.declared.steps.Step.{Step}
-use Rattle.pp_model.specs.MapCalls.{WentOn, next_kind}
+use Rattle.pp_model.specs.MapCalls.{next_kind}
 use Rattle.pp_model.specs.Calls.{key_of, Takes, removes, cuts}
 use Rattle.pp_model.specs.Pass.{MapSizes}
 use Rattle.pp_rule.specs.Lists.{IsIn}
 use Rattle.pp_rule.specs.Orders.{log_of}
 use Rattle.pp_rule.specs.Steps.{MadeStep}
 use Rattle.pp_rule.specs.Views.{slot, value_of}
-use Rattle.pp_rule.proofs.Put.{in_one, in_right, in_first}
+use Rattle.pp_rule.proofs.Put.{in_right, in_first}
 use Rattle.pp_base.specs.declared.purse.Purse.{Purse}
 use Rattle.pp_base.specs.Named.{NamedStep, name_of}
 use Rattle.pp_base.specs.Passes.{IsAtRest}
 use Rattle.pp_calls.specs.Steps.{Stepped, HasOwn, StandsThen}
 use Rattle.pp_calls.proofs.Growing.{stepped_made, stepped_both, stepped_one}
-use Rattle.pp_calls.proofs.Remaining.{stands_made}
 use Rattle.pp_shelf.specs.Runs.{map_sizes, steps_made}
 use Rattle.pp_unlink.specs.Invalidation.{SameFree}
 use Rattle.pp_lists.specs.declared.own.Gathered.{Gathered}
 use Rattle.pp_lists.specs.Lists.{ListPass}
-use Rattle.pp_lists.specs.Walks.{bucket, numbers}
-use Rattle.pp_lists.specs.Turns.{ListView, Marks, mark_step, change_at, placed_at, marked}
+use Rattle.pp_lists.specs.Walks.{numbers}
+use Rattle.pp_lists.specs.Turns.{ListView, mark_step, change_at, placed_at, marked}
 use Rattle.pp_lists.specs.Losses.{list_reader, is_effect, is_find, has_flag}
 use Rattle.pp_turns.specs.Tallies.{losing, effected, tally, counting, lost_at}
-use Rattle.pp_turns.specs.Turns.{Ran, Since, SawLast, Unplaced, Struck}
+use Rattle.pp_turns.specs.Turns.{Ran, Since, Struck}
 use Rattle.pp_turns.proofs.Tallies.{tally_later}
 use Rattle.pp_turns.proofs.Placing.{struck_at, struck_later, struck_on}
 use Rattle.pp_turns.proofs.Stretches.{ran_one, ran_both, since_on, saw_last, steps_both, stretch_both, stepped_steps}
 use Rattle.pp_walk.specs.declared.walk.Found.{Found}
 use Rattle.pp_walk.specs.declared.effects.Taken.{Taken}
-use Rattle.pp_walk.specs.Effects.{Tried, MarksNone, MarksOne}
+use Rattle.pp_walk.specs.Effects.{MarksNone, MarksOne}
 use Rattle.pp_walk.specs.Roles.{IsFound, IsEnd, at_nil, at_record, is_look}
 use Rattle.pp_walk.proofs.Effecting.{may_detach_marked}
 use Rattle.pp_list.specs.declared.going.ListGoing.{ListGoing}
 use Rattle.pp_list.specs.declared.going.Marked.{Marked}
 use Rattle.pp_list.specs.declared.going.Next.{Next}
 use Rattle.pp_list.specs.declared.going.Next.TheVariants.{Marks as ToMark, Unlinks}
-use Rattle.pp_list.specs.Causes.{taken_by, effect_place, number_at}
-use Rattle.pp_list.specs.Going.{Tries, HasTaken, MayUnlink, Stands, IsUnder, kind_of, going_of, is_after}
+use Rattle.pp_list.specs.Causes.{effect_place, number_at}
+use Rattle.pp_list.specs.Going.{Tries, HasTaken, Stands, IsUnder, kind_of, is_after}
 use Rattle.pp_list.specs.Turned.{HasLost, ListTurned}
 use Rattle.pp_list.proofs.Calm.{calm_quiet}
 use Rattle.pp_list.proofs.Trying.{tried_on, tried_long, carries_changed}
@@ -66,7 +63,8 @@ real_end z q k f (at_record some low held named above equal other first stands) 
 same_free : (p : Purse) → SameFree p p
 same_free p = record { free = refl; taken = refl; going = refl }
 
-module _ (z : Sizes) (share : ℕ) (g : ListGoing) (f : Found) (v : ListView) (p : Purse) (at : g.next ≡ ToMark f) (from : ListView) (free : List ℕ)
+module _ (z : Sizes) (share : ℕ) (g : ListGoing) (f : Found) (v : ListView) (p : Purse) (at : g.next ≡ ToMark f) (from : ListView)
+    (free : List ℕ)
     (x : IsUnder z share g v p from free) where
   pub at_mark : Tries z g.call g.lost from v × (IsFound z v.known g.call f × ((f.equal ≡ true) × (v.known.own.going ≡ true) × (f.word < 5)
       × ((slot v.known f.word).held ≡ true) × Takes g.call (slot v.known f.word).key (value_of (slot v.known f.word).value)))
@@ -133,11 +131,13 @@ effect_behind call z m m' n n' (x ∷ xs) ys s e hit = by (is_effect (name_of x)
         → (tally list_reader z call (losing (name_of x ∷ m) (lost_at list_reader z call m x n)) xs ≡ losing m' n'
         → effect_place (map name_of (xs ++ s ∷ ys)) ≡ s.place)
         → cond b x.place (effect_place (map name_of (xs ++ s ∷ ys))) ≡ s.place
-    by true f again = let bad = sym (tally_later list_reader z call (name_of x ∷ m) (lost_at list_reader z call m x n) n [] xs) ∙ f in absurd cc
+    by true f again = let bad = sym (tally_later list_reader z call (name_of x ∷ m) (lost_at list_reader z call m x n) n [] xs) ∙ f in
+        absurd cc
     by false f again = again f
 
 member_last : (b : Bool) (cs : List Gathered) (c : Gathered) → IsIn c.number (numbers (cond b (cs ++ c ∷ []) (c ∷ [])))
-member_last true cs c = subst (λ (l : List ℕ). IsIn c.number l) (sym (numbers_push cs)) (in_right c.number (numbers cs) (c.number ∷ []) (in_first c.number []))
+member_last true cs c = subst (λ (l : List ℕ). IsIn c.number l) (sym (numbers_push cs)) (in_right c.number (numbers cs) (c.number ∷ [])
+    (in_first c.number []))
   where
     numbers_push : (xs : List Gathered) → numbers (xs ++ c ∷ []) ≡ numbers xs ++ c.number ∷ []
     numbers_push [] = refl
@@ -195,8 +195,10 @@ module _ (z : Sizes) (share : ℕ) (g : ListGoing) (f : Found) (taken : Taken) (
   has_taken : (from : ListView) → Tries z g.call g.lost from v → g.lost < g.races → is_look g.call ≡ false
       → HasTaken z g.call g.races g.lost (slot v.known f.word).named taken.value from u
   has_taken from k below changing = let counts = mark_counts (map_sizes z) g.call k.memory g.lost step refl m.plain in
-      let first : Ran list_reader (map_sizes z) g.call (losing k.memory g.lost) (effected (name_of step ∷ k.memory) g.lost g.lost []) v m.then =
-      ran_one list_reader (map_sizes z) g.call (losing k.memory g.lost) (effected (name_of step ∷ k.memory) g.lost g.lost []) v m.then made refl
+      let first : Ran list_reader (map_sizes z) g.call (losing k.memory g.lost) (effected (name_of step ∷ k.memory) g.lost g.lost []) v
+      m.then =
+      ran_one list_reader (map_sizes z) g.call (losing k.memory g.lost) (effected (name_of step ∷ k.memory) g.lost g.lost []) v m.then made
+      refl
       counts.1 (λ own s. m.marks.stands m.plain) in
       let second = (calm_quiet z g.call m.then u m.reads).effected_so (name_of step ∷ k.memory) g.lost g.lost [] in
       let both = ran_both list_reader (map_sizes z) g.call (losing k.memory g.lost) (effected (name_of step ∷ k.memory) g.lost g.lost [])
@@ -204,13 +206,15 @@ module _ (z : Sizes) (share : ℕ) (g : ListGoing) (f : Found) (taken : Taken) (
         memory = second.0;
         early = g.lost;
         later = steps_made m.then u;
-        since = subst (λ (s : ℕ). Since list_reader (map_sizes z) g.call s (effected second.0 g.lost g.lost (steps_made m.then u)) from u) start
+        since = subst (λ (s : ℕ). Since list_reader (map_sizes z) g.call s (effected second.0 g.lost g.lost (steps_made m.then u)) from u)
+            start
             (since_on list_reader (map_sizes z) g.call v.known.own.start (losing k.memory g.lost)
             (effected second.0 g.lost g.lost (steps_made m.then u)) from v u k.since both);
         few = below;
         struck = struck_on g.call (Took taken.value) from v u k.since.went.number k.since.went.order k.unplaced struck;
         taken = ap (λ (l : List Step). number_at (map_sizes z) (effect_place (map name_of l))) (parts from k)
-            ∙ (ap (number_at (map_sizes z)) (effect_behind g.call (map_sizes z) [] k.memory 0 g.lost (steps_made from v) (steps_made m.then u)
+            ∙ (ap (number_at (map_sizes z)) (effect_behind g.call (map_sizes z) [] k.memory 0 g.lost (steps_made from v)
+            (steps_made m.then u)
             step k.since.read counts.0) ∙ number_there z (slot v.known f.word).named number.0);
         changing = changing;
       }
@@ -245,7 +249,8 @@ module _ (z : Sizes) (share : ℕ) (g : ListGoing) (f : Found) (taken : Taken) (
         (
           has_taken from k.0 x.below (mark_changes z share g f v p at from free x),
           record {
-            detaches = may_detach_marked z v.known g.call g.call f taken v u refl k.1.0 (real_end z v.known (key_of g.call) f k.1.0.end k.1.1.0) m;
+            detaches = may_detach_marked z v.known g.call g.call f taken v u refl k.1.0 (real_end z v.known (key_of g.call) f k.1.0.end
+                k.1.1.0) m;
             member = subst (λ (q : ListPass). IsIn (slot v.known f.word).named (numbers q.own.chain)) (sym m.known)
                 (member_last (nat_lt v.known.own.first 5) v.known.own.chain
                 (record { number = (slot v.known f.word).named; link = bit_or m.found 1 }));

@@ -1,29 +1,24 @@
 -- The turn in which an insert publishes its record.
-use Rattle.std.proofs.Common.{◌≡◌, ◌≢◌, ◌⊎◌, ℕ, suc, ◌+◌, ◌-◌, ◌*◌, ◌<◌, ◌≤◌, min, get_or, Bool, true, false, cond, nat_eq, List}
-use Rattle.std.proofs.Common.{[], ◌∷◌, ◌++◌, map, length, take, refl, sym, ap, ◌∙◌}
-use Rattle.std.proofs.Common.{subst, inl, inr, ⊎_elim, Option, Some, None, arith, length-append}
+use Rattle.std.proofs.Common.{◌≡◌, ℕ, ◌+◌, ◌<◌, ◌≤◌, get_or, Bool, true, false, cond, nat_eq, List}
+use Rattle.std.proofs.Common.{[], ◌∷◌, map, length, refl, sym, ap, ◌∙◌}
+use Rattle.std.proofs.Common.{subst, Option, Some, None, arith, length-append}
 use Rattle.std.specs.Prelude.{◌||◌, ◌&&◌, not}
 use Rattle.std.proofs.Math.Bool.{false≢true}
-use lib.ListN.{get_elem?}
-use mathlib.Core.Option.{some}
 use Rattle.pp_link.specs.declared.layout.Sizes.{Sizes}
 use Rattle.pp_link.specs.declared.link.Link.{Link}
 use Rattle.pp_link.specs.Links.{word_of}
 use Rattle.pp_pool.specs.declared.fresh.Fresh.{Fresh}
 use Rattle.pp_pool.specs.Taken.{IsPrivate, IsPublished, one_fewer_out}
-use Rattle.pp_model.specs.declared.Answer.TheVariants.{Said, Full}
+use Rattle.pp_model.specs.declared.Answer.TheVariants.{Said}
 use Rattle.pp_model.specs.declared.Call.{Call}
 use Rattle.pp_model.specs.declared.Call.TheVariants.{Insert}
 use Rattle.pp_model.specs.declared.Reply.TheVariants.{Added}
 use Rattle.pp_model.specs.declared.Turned.{Turned}
-use Rattle.pp_model.specs.declared.Turned.TheVariants.{On, Done}
+use Rattle.pp_model.specs.declared.Turned.TheVariants.{Done}
 use Rattle.pp_model.specs.declared.steps.Step.{Step}
-use Rattle.pp_model.specs.MapCalls.{AnswersCall, LeavesPurse}
-use Rattle.pp_model.specs.Calls.{key_of}
 use Rattle.pp_model.specs.Pass.{MapSizes}
-use Rattle.pp_rule.specs.declared.views.PrivateRecord.{PrivateRecord}
 use Rattle.pp_rule.specs.declared.views.Chain.{Chain}
-use Rattle.pp_rule.specs.Lists.{IsIn, OnceBy, times, remove_at}
+use Rattle.pp_rule.specs.Lists.{OnceBy, times, remove_at}
 use Rattle.pp_rule.specs.Rule.{number_of}
 use Rattle.pp_rule.specs.Orders.{log_of}
 use Rattle.pp_rule.specs.Steps.{MadeStep, IsUnused}
@@ -35,32 +30,32 @@ use Rattle.pp_base.specs.declared.purse.Purse.{Purse}
 use Rattle.pp_base.specs.Named.{NamedStep, name_of}
 use Rattle.pp_base.specs.Passes.{IsAtRest, IsSame, owned_numbers}
 use Rattle.pp_calls.specs.PoolViews.{pool_view}
-use Rattle.pp_calls.specs.Steps.{Stepped, HasOwn, StandsThen}
+use Rattle.pp_calls.specs.Steps.{Stepped}
 use Rattle.pp_calls.proofs.Growing.{stepped_made, stepped_both, stepped_one}
 use Rattle.pp_calls.proofs.Remaining.{stands_made}
 use Rattle.pp_shelf.specs.Runs.{map_sizes, steps_made}
 use Rattle.pp_lists.specs.Lists.{ListPass}
-use Rattle.pp_lists.specs.Turns.{ListView, Published, publish_step, change_at, placed_at, published}
+use Rattle.pp_lists.specs.Turns.{ListView, publish_step, change_at, placed_at, published}
 use Rattle.pp_lists.specs.Losses.{list_reader, is_effect, is_find, has_flag}
+use Rattle.pp_turns.proofs.Answering.{told_as}
 use Rattle.pp_turns.specs.Tallies.{losing, effected, counting, lost_at}
-use Rattle.pp_turns.specs.Turns.{Ran, Since, SawLast, Unplaced, Struck}
+use Rattle.pp_turns.specs.Turns.{Ran, Struck}
 use Rattle.pp_turns.proofs.Placing.{struck_at, struck_on, struck_later, unplaced_made, unplaced_on}
 use Rattle.pp_turns.proofs.Stretches.{ran_one, since_on, saw_last, stretch_both, stepped_steps, own_before}
 use Rattle.pp_walk.specs.Effects.{Tried, FillsAt, PublishesSo}
 use Rattle.pp_walk.specs.Parts.{plain_link}
-use Rattle.pp_walk.specs.Roles.{is_look}
 use Rattle.pp_list.specs.declared.going.ListGoing.{ListGoing}
-use Rattle.pp_list.specs.Purses.{HasOut, WritesAside, out_of}
+use Rattle.pp_list.specs.Purses.{WritesAside}
 use Rattle.pp_list.specs.Meant.{list_meaning}
-use Rattle.pp_list.specs.Going.{Tries, Inserts, HoldsFirst, Carries, IsUnder}
 use Rattle.pp_list.specs.Answers.{Calm, MayEnd, Ends, spends_of}
-use Rattle.pp_list.specs.Turned.{SameGoing, Advances, Part, HasLost, HasRecord}
+use Rattle.pp_list.specs.Turned.{SameGoing, Part, HasLost, HasRecord}
 use Rattle.pp_list.proofs.Again.{part_before, tries_later}
 use Rattle.pp_list.proofs.Calm.{calm_aside}
 use Rattle.pp_list.proofs.Trying.{tried_on, tried_long, insert_changes}
 
 -- the same part of a turn, whatever record the call had
-pub part_fresh : (z : Sizes) (share : ℕ) (Known : ListView → List ℕ → Type 0) (g g' : ListGoing) (h : Option Fresh) (v w : ListView) (p' : Purse)
+pub part_fresh : (z : Sizes) (share : ℕ) (Known : ListView → List ℕ → Type 0) (g g' : ListGoing) (h : Option Fresh) (v w : ListView)
+    (p' : Purse)
     (result : Turned) → Part z share Known (record g { fresh = h }) g' v w p' result → Part z share Known g g' v w p' result
 part_fresh z share Known g g' h v w p' result part = record {
   stepped = part.stepped;
@@ -133,7 +128,8 @@ module _ (z : Sizes) (share : ℕ) (g : ListGoing) (f : Fresh) (key value : ℕ)
       → Part z share (HasLost z share (record g { fresh = Some f }) x p) (record g { fresh = Some f }) g' x w p' result
       → Part z share (HasRecord z share g f v p) g g' v w p' result
   put_again g' w p' result part = part_fresh z share (HasRecord z share g f v p) g g' (Some f) v w p' result
-      (part_before z share (HasRecord z share g f v p) (HasLost z share (record g { fresh = Some f }) x p) (record g { fresh = Some f }) g' v x w
+      (part_before z share (HasRecord z share g f v p) (HasLost z share (record g { fresh = Some f }) x p) (record g { fresh = Some f }) g'
+      v x w
       p' result first (λ own s. stands_made missed.steps u x missed.did own (writes.aside.stands (own_before u x
       (stepped_made missed.steps u x missed.did) own) s))
       (unplaced_on v u x writes.aside.stepped.number writes.aside.unplaced (unplaced_made missed.steps u x missed.did)) put_lost part)
@@ -216,7 +212,7 @@ module _ (z : Sizes) (share : ℕ) (g : ListGoing) (f : Fresh) (key value : ℕ)
   one_made = stepped_steps u x (stepped_one u x made refl)
 
   may_end : g.lost < g.races → (from : ListView) (free : List ℕ) → HasRecord z share g f v p from free
-      → MayEnd z share g.races g.call None (Said Added) from x free (one_fewer_out p)
+      → MayEnd z share g.races g.call None (Said Added) g.lost from x free (one_fewer_out p)
   may_end below from free k = let t = tries_later z g g.lost from v u calm_first (ap (λ o. o.start) writes.own) k.tries in
       let ran : Ran list_reader (map_sizes z) g.call (losing t.memory g.lost) (effected (name_of step ∷ t.memory) g.lost g.lost []) u x =
       ran_one list_reader (map_sizes z) g.call (losing t.memory g.lost) (effected (name_of step ∷ t.memory) g.lost g.lost []) u x made refl
@@ -224,7 +220,6 @@ module _ (z : Sizes) (share : ℕ) (g : ListGoing) (f : Fresh) (key value : ℕ)
         by = record {
           start = u.known.own.start;
           memory = name_of step ∷ t.memory;
-          lost = g.lost;
           early = g.lost;
           later = [];
           since = since_on list_reader (map_sizes z) g.call u.known.own.start (losing t.memory g.lost)
@@ -240,23 +235,29 @@ module _ (z : Sizes) (share : ℕ) (g : ListGoing) (f : Fresh) (key value : ℕ)
       }
 
   -- and is answered
-  pub put_ends : (g' : ListGoing) (w : ListView) (p' : Purse) (result : Turned) → SameGoing g g' → g'.struck ≡ true → g.lost < g.races
+  pub put_ends : (g' : ListGoing) (w : ListView) (p' : Purse) (result : Turned) → SameGoing g g' → g'.lost ≡ g.lost → g'.struck ≡ true
+      → g.lost < g.races
       → result ≡ Done (Said Added) → Ends z share g.races g.call None (Said Added) x w (one_fewer_out p) p'
       → Part z share (HasRecord z share g f v p) g g' v w p' result
-  put_ends g' w p' result same now below is e = subst (λ (r : Turned). Part z share (HasRecord z share g f v p) g g' v w p' r) (sym is) record {
-    stepped = stepped_both v x w (stepped_both v u x writes.aside.stepped here) e.calm.stepped;
-    stands = λ own s. e.calm.stands own (d.published.made.stands (d.hit refl));
-    same = same;
-    strikes = λ _. (
-      Added,
-      struck_later g.call Added v x w (here.number ∙ writes.aside.stepped.number) e.calm.stepped.order
-          (struck_on g.call Added v u x writes.aside.stepped.number writes.aside.stepped.order writes.aside.unplaced struck) e.calm.unplaced,
-    );
-    struck = now;
-    advances = tt;
-    goes_on = tt;
-    answered = λ from free k stands. e.answered from free (may_end below from free k) stands;
-  }
+  put_ends g' w p' result same lost_still now below is e =
+      subst (λ (r : Turned). Part z share (HasRecord z share g f v p) g g' v w p' r) (sym is) record {
+        stepped = stepped_both v x w (stepped_both v u x writes.aside.stepped here) e.calm.stepped;
+        stands = λ own s. e.calm.stands own (d.published.made.stands (d.hit refl));
+        same = same;
+        strikes = λ _. (
+          Added,
+          struck_later g.call Added v x w (here.number ∙ writes.aside.stepped.number) e.calm.stepped.order
+              (struck_on g.call Added v u x writes.aside.stepped.number writes.aside.stepped.order writes.aside.unplaced
+              struck)
+              e.calm.unplaced,
+        );
+        struck = now;
+        advances = tt;
+        goes_on = tt;
+        answered = λ from free k stands. told_as list_meaning (map_sizes z) g.call g.races (pool_view from free share)
+            (pool_view w p'.free.items share) (Said Added) g.lost g'.lost (sym lost_still)
+            (e.answered from free g.lost (may_end below from free k) stands);
+      }
 
   pub put_made : (w : ListView) → Stepped x w → 0 < length (steps_made v w)
   put_made w s = let a = ap (λ (l : List Step). length l) (stretch_both v x w (stepped_both v u x writes.aside.stepped here) s)

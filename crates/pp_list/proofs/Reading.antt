@@ -82,7 +82,8 @@ one_false : (b : Bool) → one_if b ≡ 0 → b ≡ false
 one_false true e = absurd (omega arith)
 one_false false e = refl
 
-find_false : (z : Sizes) (before : List NamedStep) (s : NamedStep) → finds (map_sizes z) before (s ∷ []) ≡ 0 → is_find (map_sizes z) before s ≡ false
+find_false : (z : Sizes) (before : List NamedStep) (s : NamedStep) → finds (map_sizes z) before (s ∷ []) ≡ 0 → is_find (map_sizes z) before
+    s ≡ false
 find_false z before s none = let more = finds_more (map_sizes z) before s [] in let rest = finds_none (map_sizes z) (s ∷ before) in
     one_false (is_find (map_sizes z) before s) (omega arith)
 

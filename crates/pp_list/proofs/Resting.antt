@@ -1,19 +1,19 @@
 -- A pass on which no call is going any more.
-use Rattle.std.proofs.Common.{◌≡◌, ℕ, zero, suc, ◌+◌, ◌<◌, ◌≤◌, Bool, false, List, [], ◌∷◌, length, map, get_or, refl, sym, ap}
+use Rattle.std.proofs.Common.{◌≡◌, ℕ, zero, suc, ◌+◌, ◌<◌, List, [], ◌∷◌, length, map, get_or, refl, sym, ap}
 use Rattle.std.proofs.Common.{◌∙◌, subst, arith}
-use Rattle.std.proofs.Common.{Option, Some, None, ◌++◌}
+use Rattle.std.proofs.Common.{Some, ◌++◌}
 use Rattle.std.specs.Prelude.{replicate}
 use Rattle.pp_pool.specs.declared.fresh.Fresh.{Fresh}
 use Rattle.pp_pool.specs.Taken.{GaveBack}
 use Rattle.pp_rule.specs.declared.views.Chain.{Chain}
 use Rattle.pp_rule.specs.declared.views.WalkSlot.{WalkSlot}
 use Rattle.pp_rule.specs.Steps.{IsUnused}
-use Rattle.pp_rule.specs.Views.{slot, blank, guarding}
+use Rattle.pp_rule.specs.Views.{blank}
 use Rattle.pp_base.specs.declared.purse.Purse.{Purse}
-use Rattle.pp_base.specs.Passes.{named_of, IsIdle, IsAtRest}
+use Rattle.pp_base.specs.Passes.{named_of, IsAtRest}
 use Rattle.pp_lists.specs.Lists.{ListPass}
-use Rattle.pp_walk.specs.Words.{IsEmpty, AllEmpty, SameRest}
-use Rattle.pp_list.specs.Purses.{HasOut, GaveBackOut, out_of}
+use Rattle.pp_walk.specs.Words.{AllEmpty, SameRest}
+use Rattle.pp_list.specs.Purses.{GaveBackOut}
 
 -- No scan is under way and no frontier word is in use but for a chain, where the same is known of them.
 pub rest_kept : (q q' : ListPass) (p p' : Purse) → SameRest q q' → p'.spent ≡ p.spent → IsAtRest q p → IsAtRest q' p'

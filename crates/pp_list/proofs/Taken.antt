@@ -1,20 +1,18 @@
 -- The turn in which an insert gets its record and publishes it, or gets none and is answered.
-use Rattle.std.proofs.Common.{◌≡◌, ◌≢◌, ℕ, zero, suc, ◌+◌, ◌*◌, ◌<◌, ◌≤◌, min, Bool, true, false, List, [], ◌∷◌, ◌++◌, length}
+use Rattle.std.proofs.Common.{◌≡◌, ℕ, zero, suc, ◌*◌, ◌<◌, ◌≤◌, min, true, false, List, [], ◌∷◌, ◌++◌, length}
 use Rattle.std.proofs.Common.{take, refl, sym, ap, ◌∙◌}
-use Rattle.std.proofs.Common.{subst, Option, Some, None, arith, length-append, get_or, ◌⊎◌}
+use Rattle.std.proofs.Common.{subst, None, arith, length-append, get_or, ◌⊎◌}
 use Rattle.std.proofs.Math.Bool.{false≢true}
 use Rattle.pp_link.specs.declared.layout.Sizes.{Sizes}
 use Rattle.pp_pool.specs.declared.fresh.Fresh.{Fresh}
-use Rattle.pp_model.specs.declared.Answer.{Answer}
 use Rattle.pp_model.specs.declared.Answer.TheVariants.{Full}
 use Rattle.pp_model.specs.declared.Call.{Call}
-use Rattle.pp_model.specs.declared.Call.TheVariants.{Insert}
 use Rattle.pp_model.specs.declared.Turned.{Turned}
-use Rattle.pp_model.specs.declared.Turned.TheVariants.{On, Done}
+use Rattle.pp_model.specs.declared.Turned.TheVariants.{Done}
 use Rattle.pp_model.specs.declared.steps.Step.{Step}
 use Rattle.pp_model.specs.Calls.{key_of}
 use Rattle.pp_model.specs.Lists.{IsPrefix}
-use Rattle.pp_model.specs.MapCalls.{AnswersCall, IfOn, IfDone, LeavesPurse}
+use Rattle.pp_model.specs.MapCalls.{Answered, LeavesPurse}
 use Rattle.pp_rule.specs.Causes.{owned_after}
 use Rattle.pp_rule.specs.Orders.{log_of}
 use Rattle.pp_rule.proofs.Histories.{log_begins}
@@ -25,16 +23,16 @@ use Rattle.pp_walk.specs.Parts.{GathersNone}
 use Rattle.pp_walk.specs.Roles.{is_look}
 use Rattle.pp_base.specs.declared.purse.Purse.{Purse}
 use Rattle.pp_calls.specs.PoolViews.{pool_view}
-use Rattle.pp_calls.specs.Steps.{Stepped, HasOwn, StandsThen, SamePurse}
-use Rattle.pp_calls.proofs.Growing.{stepped_both, stepped_made, went_on}
+use Rattle.pp_calls.specs.Steps.{StandsThen}
+use Rattle.pp_calls.proofs.Growing.{stepped_both, stepped_made}
 use Rattle.pp_shelf.specs.Runs.{map_sizes, steps_made}
 use Rattle.pp_lists.specs.Lists.{ListPass}
 use Rattle.pp_lists.specs.Turns.{ListView}
 use Rattle.pp_lists.specs.Losses.{list_reader}
 use Rattle.pp_turns.specs.Tallies.{losing}
-use Rattle.pp_turns.specs.Turns.{Since, SawLast, Unplaced, Struck, Kept, WasAbsent}
+use Rattle.pp_turns.specs.Turns.{Kept}
 use Rattle.pp_turns.specs.Causes.{Aside}
-use Rattle.pp_turns.proofs.Answering.{says_full}
+use Rattle.pp_turns.proofs.Answering.{says_full, told_as}
 use Rattle.pp_turns.proofs.Aside.{aside_at_purse}
 use Rattle.pp_turns.proofs.Placing.{absent_on, struck_on, unplaced_on}
 use Rattle.pp_turns.proofs.Purses.{found_none, full_purse, tidy_already}
@@ -46,10 +44,10 @@ use Rattle.pp_list.specs.declared.going.Next.{Next}
 use Rattle.pp_list.specs.declared.going.Next.TheVariants.{Publishes, Over}
 use Rattle.pp_list.specs.Meant.{list_words, list_meaning, HoldsPairs}
 use Rattle.pp_list.specs.Causes.{list_causes}
-use Rattle.pp_list.specs.Purses.{HasOut, TakesOne, TakesNone, LooksAway, out_of}
-use Rattle.pp_list.specs.Going.{Tries, Inserts, HoldsFirst, Carries, Stands, IsUnder, is_after, going_of}
+use Rattle.pp_list.specs.Purses.{TakesOne, TakesNone, LooksAway}
+use Rattle.pp_list.specs.Going.{Tries, Inserts, HoldsFirst, Stands, IsUnder, is_after}
 use Rattle.pp_list.specs.Answers.{Calm}
-use Rattle.pp_list.specs.Turned.{SameGoing, Advances, Part, HasRecord, ListTurned}
+use Rattle.pp_list.specs.Turned.{Part, HasRecord, ListTurned}
 use Rattle.pp_list.proofs.Again.{tries_later}
 use Rattle.pp_list.proofs.Calm.{calm_aside, calm_quiet, calm_both}
 use Rattle.pp_list.proofs.Treading.{went_by, on_by, done_by}
@@ -115,17 +113,22 @@ module _ (z : Sizes) (share : ℕ) (g : ListGoing) (f : Found) (v u : ListView) 
     stands = λ own s. part.stands own (aside.stands (own_before u w part.stepped own) s);
     same = record { head = part.same.head; call = part.same.call; races = part.same.races };
     stays = λ was. absurd (false≢true (sym unstruck ∙ was));
-    strikes = λ was now. let s = part.strikes now in (s.0, struck_on g.call s.0 v u w aside.stepped.number aside.stepped.order aside.unplaced s.1);
+    strikes = λ was now. let s = part.strikes now in (
+      s.0,
+      struck_on g.call s.0 v u w aside.stepped.number aside.stepped.order
+          aside.unplaced s.1,
+    );
     struck = part.struck;
     went = went_by v w g g' result part.advances;
-    goes_on = on_by result ((from : ListView) (free : List ℕ) → HasRecord z share (bare g) fresh u q from free → IsUnder z share g' w p' from free)
+    goes_on = on_by result ((from : ListView) (free : List ℕ) → HasRecord z share (bare g) fresh u q from free → IsUnder z share g' w p'
+        from free)
         ((from : ListView) (free : List ℕ) → IsUnder z share g v p from free → IsUnder z share g' w p' from free)
         (λ h from free x. h from free (has_record from free x)) part.goes_on;
     answered = done_by result (λ answer. (from : ListView) (free : List ℕ) → HasRecord z share (bare g) fresh u q from free → StandsThen w
-        → AnswersCall list_meaning (map_sizes z) g.call g.races (pool_view from free share) (pool_view w p'.free.items share) answer)
-        (λ answer. (from : ListView) (free : List ℕ) → IsUnder z share g v p from free → StandsThen w
-        → AnswersCall list_meaning (map_sizes z) g.call g.races (pool_view from free share) (pool_view w p'.free.items share) answer)
-        (λ a h from free x s. h from free (has_record from free x) s) part.answered;
+        → Answered list_meaning (map_sizes z) g.call g.races (pool_view from free share) (pool_view w p'.free.items share) answer
+        g'.lost) (λ answer. (from : ListView) (free : List ℕ) → IsUnder z share g v p from free → StandsThen w
+        → Answered list_meaning (map_sizes z) g.call g.races (pool_view from free share) (pool_view w p'.free.items share) answer
+        g'.lost) (λ a h from free x s. h from free (has_record from free x) s) part.answered;
   }
 
 none_free : (xs : List ℕ) → length xs < 1 → xs ≡ []
@@ -163,23 +166,28 @@ module _ (z : Sizes) (share : ℕ) (g : ListGoing) (f : Found) (v u w : ListView
       let x = length-append o.earlier (o.scan ++ o.later) in let y = length-append o.scan o.later in omega arith
 
   full_answers : (from : ListView) (free : List ℕ) → IsUnder z share g v p from free → StandsThen w
-      → AnswersCall list_meaning (map_sizes z) g.call g.races (pool_view from free share) (pool_view w p'.free.items share) Full
-  full_answers from free x stands = let k = at_publish z share g f v p at from free x in let i = k.1.0 in let r = calm.losing_so k.0.memory g.lost in
+      → Answered list_meaning (map_sizes z) g.call g.races (pool_view from free share) (pool_view w p'.free.items share) Full g.lost
+  full_answers from free x stands = let k = at_publish z share g f v p at from free x in let i = k.1.0 in let r = calm.losing_so k.0.memory
+      g.lost in
       let same : p.free.items ≡ free = x.carries.same t.none in
       let none : free ≡ [] = none_free free (subst (λ (l : List ℕ). length l < 1) same t.ran_out.short) in
       let zero : length free ≡ 0 = ap (λ (l : List ℕ). length l) none in
       let kept : Kept free share p'.free.items 1 = omega (arith) in
-      let on = since_on list_reader (map_sizes z) g.call v.known.own.start (losing k.0.memory g.lost) (losing r.0 g.lost) from v w k.0.since r.1 in
+      let on = since_on list_reader (map_sizes z) g.call v.known.own.start (losing k.0.memory g.lost) (losing r.0 g.lost) from v w k.0.since
+      r.1 in
       says_full list_words list_causes HoldsPairs (map_sizes z) g.call g.races from w free p'.free.items share v.known.own.start
       (losing r.0 g.lost) on (saw_last from v w k.0.since.went calm.stepped long) (sizes ∙ x.carries.sizes) stands i.key i.value i.call_is
       (unplaced_on from v w k.0.since.went.number k.0.unplaced calm.unplaced) (omega (arith, zero))
       (absent_on v.known.own.start i.key (log_of w.order) (log_of v.order) (log_begins w.order v.order calm.stepped.order) i.absent) x.below
       (found_none z 1 from v u w free p q t.names l.idles.steps k.0.since.went t.steps.made l.idles.did t.ran_out same owned)
-      (subst (λ (c : Call). LeavesPurse list_meaning (map_sizes z) c (pool_view from free share) (pool_view w p'.free.items share)) (sym i.call_is)
+      (subst (λ (c : Call). LeavesPurse list_meaning (map_sizes z) c (pool_view from free share) (pool_view w p'.free.items share))
+      (sym i.call_is)
       (tidy_already list_meaning z refl from v w free share 1 p'.free.items (omega (arith, few_retired)) four (omega (arith, short)) kept))
-      (full_purse list_meaning z refl from v w free share p'.free.items few_retired short (subst (λ (l : List ℕ). IsPrefix (take (min (length l) share) l) p'.free.items) (sym none) (first_none (min 0 share) p'.free.items)))
+      (full_purse list_meaning z refl from v w free share p'.free.items few_retired short
+      (subst (λ (l : List ℕ). IsPrefix (take (min (length l) share) l) p'.free.items) (sym none) (first_none (min 0 share) p'.free.items)))
 
-  pub full_turned : (g' : ListGoing) → g' ≡ record g { next = Over; fresh = None } → (from : ListView) (free : List ℕ) → IsUnder z share g v p from free
+  pub full_turned : (g' : ListGoing) → g' ≡ record g { next = Over; fresh = None } → (from : ListView) (free : List ℕ)
+      → IsUnder z share g v p from free
       → ListTurned z share g g' v w p p' (Done Full)
   full_turned g' over from0 free0 x0 = let unstruck = not_struck z share g f v p at from0 free0 x0 in
       let now : g'.struck ≡ false = ap (λ y. y.struck) over ∙ unstruck in record {
@@ -192,5 +200,7 @@ module _ (z : Sizes) (share : ℕ) (g : ListGoing) (f : Found) (v u w : ListView
         struck = now;
         went = tt;
         goes_on = tt;
-        answered = full_answers;
+        answered = λ from free x stands. told_as list_meaning (map_sizes z) g.call g.races (pool_view from free share)
+            (pool_view w p'.free.items share)
+            Full g.lost g'.lost (sym (ap (λ y. y.lost) over)) (full_answers from free x stands);
       }

@@ -1,6 +1,6 @@
 -- The record of an insert that was taken.
-use Rattle.std.proofs.Common.{◌≡◌, ℕ, ◌+◌, ◌<◌, ◌≤◌, min, ◌^◌, true, List, [], ◌∷◌, ◌++◌, length, Option, Some, None, IfSome}
-use Rattle.std.proofs.Common.{IfNone, refl, sym, ap, ◌∙◌, subst, arith}
+use Rattle.std.proofs.Common.{◌≡◌, ℕ, ◌≤◌, List, [], ◌∷◌, length, Option, Some, None, IfSome}
+use Rattle.std.proofs.Common.{IfNone, refl, sym, ap, subst, arith}
 use Rattle.std.proofs.Common.{length-append}
 use Rattle.pp_link.specs.declared.layout.Sizes.{Sizes}
 use Rattle.pp_pool.specs.declared.fresh.Fresh.{Fresh}
@@ -10,7 +10,7 @@ use Rattle.pp_lists.specs.Turns.{ListView}
 use Rattle.pp_purse.specs.Purses.{FindsFree}
 use Rattle.pp_purse.specs.Steps.{PurseSteps}
 use Rattle.pp_purse.proofs.Stretches.{none_made}
-use Rattle.pp_list.specs.Purses.{HasOut, TakesOne, TakesNone, out_of}
+use Rattle.pp_list.specs.Purses.{HasOut, TakesOne, TakesNone}
 
 -- it was out already
 pub took_already : (z : Sizes) (f : Fresh) (v : ListView) (p : Purse) → HasOut v.known p (Some f) → TakesOne z (Some f) f v v p p

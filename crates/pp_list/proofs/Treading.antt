@@ -1,7 +1,7 @@
 -- A turn of a walk, for the call whose walk it is.
-use Rattle.std.proofs.Common.{◌≡◌, ℕ, ◌+◌, ◌-◌, ◌^◌, ◌<◌, ◌≤◌, Bool, true, false, cond, List, [], ◌∷◌, ◌++◌, map, length, refl}
-use Rattle.std.proofs.Common.{sym, ap, ◌∙◌, subst, inl, inr, ⊎_elim, append-nil, length-append}
-use Rattle.std.proofs.Common.{Option, Some, None, arith, ◌⊎◌}
+use Rattle.std.proofs.Common.{◌≡◌, ℕ, ◌+◌, ◌<◌, Bool, true, false, cond, List, [], ◌∷◌, ◌++◌, map, length, refl}
+use Rattle.std.proofs.Common.{sym, ap, ◌∙◌, subst, ⊎_elim, append-nil, length-append}
+use Rattle.std.proofs.Common.{Option, Some, None, arith}
 use Rattle.std.specs.Prelude.{drop}
 use Rattle.std.proofs.Math.Bool.{false≢true}
 use Rattle.std.proofs.Math.Seq.{drop-append_seam}
@@ -13,7 +13,7 @@ use Rattle.pp_model.specs.declared.Placed.{Placed}
 use Rattle.pp_model.specs.declared.Turned.{Turned}
 use Rattle.pp_model.specs.declared.Turned.TheVariants.{On, Done}
 use Rattle.pp_model.specs.declared.steps.Step.{Step}
-use Rattle.pp_model.specs.MapCalls.{WentOn, turn_lost, keys_narrowed, next_kind, IfOn, IfDone, AnswersCall}
+use Rattle.pp_model.specs.MapCalls.{WentOn, turn_lost, keys_narrowed, next_kind, IfOn, IfDone, Answered}
 use Rattle.pp_model.specs.Calls.{key_of, changes, reply_at}
 use Rattle.pp_model.specs.Pass.{seen_first}
 use Rattle.pp_lists.specs.Walks.{IsRight}
@@ -22,24 +22,23 @@ use Rattle.pp_rule.specs.declared.views.Chain.{Chain}
 use Rattle.pp_rule.specs.Orders.{log_of, made_by, placed_by}
 use Rattle.pp_base.specs.declared.purse.Purse.{Purse}
 use Rattle.pp_base.specs.Named.{NamedStep, name_of}
-use Rattle.pp_calls.specs.Steps.{Went, Stepped, HasOwn, StandsThen, WriteNone}
+use Rattle.pp_calls.specs.Steps.{Stepped, HasOwn, StandsThen, WriteNone}
 use Rattle.pp_calls.proofs.Growing.{stepped_both, kinds_none}
 use Rattle.pp_rule.specs.Lists.{IsIn, times}
 use Rattle.pp_rule.specs.Rule.{number_of}
 use Rattle.pp_shelf.specs.Runs.{map_sizes, steps_made}
 use Rattle.pp_lists.specs.declared.own.ListOwn.{ListOwn}
-use Rattle.pp_lists.specs.Lists.{ListPass}
-use Rattle.pp_lists.specs.Turns.{ListView, beginning}
+use Rattle.pp_lists.specs.Turns.{ListView}
 use Rattle.pp_lists.specs.Losses.{list_reader}
 use Rattle.pp_turns.specs.Tallies.{losing}
-use Rattle.pp_turns.specs.Turns.{Ran, Since, Waits, SawLast, Unplaced, Replied}
+use Rattle.pp_turns.specs.Turns.{Ran, Since, SawLast, Unplaced, Replied}
 use Rattle.pp_turns.proofs.Placing.{unplaced_on, replied_on}
 use Rattle.pp_turns.proofs.Purses.{alone_on}
 use Rattle.pp_turns.proofs.Stretches.{since_first, since_on, saw_last, stepped_steps, stretch_both, own_before}
 use Rattle.pp_walk.proofs.Counting.{walks_write_none}
 use Rattle.pp_walk.specs.declared.walk.Walk.{Walk}
 use Rattle.pp_walk.specs.declared.walk.Found.{Found}
-use Rattle.pp_walk.specs.Roles.{IsWalk, IsFound, found_in, lower_of, is_look}
+use Rattle.pp_walk.specs.Roles.{IsWalk, IsFound, found_in, lower_of}
 use Rattle.pp_walk.specs.Trod.{Trod, FirstSaw}
 use Rattle.pp_walk.specs.Turns.{From, Goes, GoesOn, GoesBack, Arrives, RepliedTo}
 use Rattle.pp_walk.specs.Turns as walked
@@ -51,7 +50,7 @@ use Rattle.pp_calls.specs.PoolViews.{pool_view}
 use Rattle.pp_list.specs.Meant.{list_meaning}
 use Rattle.pp_list.specs.Purses.{HasOut}
 use Rattle.pp_list.specs.Going.{Begun, Tries, Carries, IsUnder, kind_of, going_of, lower_left, Stands, is_after}
-use Rattle.pp_list.specs.Turned.{SameGoing, Advances, Part, HasLost, HasArrived, HasEnded, ListTurned}
+use Rattle.pp_list.specs.Turned.{Advances, Part, HasLost, HasArrived, HasEnded, ListTurned}
 use Rattle.pp_list.proofs.Reading.{named_losing}
 use Rattle.pp_list.proofs.Calm.{strikes_none}
 use Rattle.pp_list.proofs.Resting.{rest_kept}
@@ -120,7 +119,8 @@ module _ (z : Sizes) (call : Call) (n lost : ℕ) (calls : List Placed) (own : L
 
 -- what a call has of its purse, where its walk wrote no link
 pub carries_rest : (share : ℕ) (call : Call) (fresh : Option Fresh) (from v u : ListView) (free : List ℕ) (p : Purse) → Stepped v u
-    → WriteNone (steps_made v u) → SameRest v.known u.known → Carries share call fresh from v free p → Carries share call fresh from u free p
+    → WriteNone (steps_made v u) → SameRest v.known u.known → Carries share call fresh from v free p → Carries share call fresh from u free
+    p
 carries_rest share call fresh from v u free p s none rest k = record {
   sizes = rest.sizes ∙ k.sizes;
   out = out fresh k.out;
@@ -149,7 +149,8 @@ trod_unplaced : (lost : ℕ) (v u : ListView) (t : Trod lost [] v u) → Unplace
 trod_unplaced lost v u t = t.stepped.placed ∙ (ap (λ (l : List Placed). placed_by v.known.number v.order ++ l) t.calls_are
     ∙ append-nil (placed_by v.known.number v.order))
 
-pub went_by : (v w : ListView) (g g' : ListGoing) (result : Turned) → IfOn result (Advances g g') → IfOn result (WentOn (going_of v.known g) (going_of w.known g'))
+pub went_by : (v w : ListView) (g g' : ListGoing) (result : Turned) → IfOn result (Advances g g')
+    → IfOn result (WentOn (going_of v.known g) (going_of w.known g'))
 went_by v w g g' On a = ⊎_elim (λ (l : (g'.lost ≡ g.lost + 1) × (g'.lost < g'.races)). turn_lost l.0 l.1)
     (λ (l : (g'.lost ≡ g.lost) × (kind_of g.next < kind_of g'.next)). next_kind l.0 l.1) a
 went_by v w g g' (Done answer) a = tt
@@ -180,8 +181,8 @@ turned_by z share Known g g' v u w p q p' result first long stands unstruck each
   goes_on = on_by result _ ((from : ListView) (free : List ℕ) → IsUnder z share g v p from free → IsUnder z share g' w p' from free)
       (λ f from free under. f from free (each from free under)) part.goes_on;
   answered = done_by result _ (λ answer. (from : ListView) (free : List ℕ) → IsUnder z share g v p from free → StandsThen w
-      → AnswersCall list_meaning (map_sizes z) g.call g.races (pool_view from free share) (pool_view w p'.free.items share) answer)
-      (λ a f from free under stands. f from free (each from free under) stands) part.answered;
+      → Answered list_meaning (map_sizes z) g.call g.races (pool_view from free share) (pool_view w p'.free.items share) answer
+      g'.lost) (λ a f from free under stands. f from free (each from free under) stands) part.answered;
 }
 
 -- the walk that a call is at
@@ -193,32 +194,35 @@ module _ (z : Sizes) (share : ℕ) (g : ListGoing) (walk : Walk) (v u : ListView
   pub unstruck : (from : ListView) (free : List ℕ) → IsUnder z share g v p from free → g.struck ≡ false
   unstruck from free x = x.struck ∙ ap is_after at
 
-  module _ (w' : Walk) (lost : ℕ) (goes : Goes z walk w' lost v u) (from : ListView) (free : List ℕ) (x : IsUnder z share g v p from free) where
-    stood : (walk.call ≡ g.call) × (IsWalk z v.known walk × Begun walk.fresh z g.call g.lost from v)
-    stood = stage z g walk from v at x.stands
+  module _ (w' : Walk) (lost : ℕ) (goes : Goes z walk w' lost v u) (from : ListView) (free : List ℕ) (x : IsUnder z share g v p from free)
+    where
+      stood : (walk.call ≡ g.call) × (IsWalk z v.known walk × Begun walk.fresh z g.call g.lost from v)
+      stood = stage z g walk from v at x.stands
 
-    after_turn : Trodden z g.call (g.lost + lost) from u
-    after_turn = trodden_at z g.call g.lost lost [] goes.own walk from v u goes.turned walk.fresh stood.1.1
-        (subst (λ (c : Call). From walk.fresh c goes.own v u) refl goes.turned.from)
+      after_turn : Trodden z g.call (g.lost + lost) from u
+      after_turn = trodden_at z g.call g.lost lost [] goes.own walk from v u goes.turned walk.fresh stood.1.1
+          (subst (λ (c : Call). From walk.fresh c goes.own v u) refl goes.turned.from)
 
-    tries : Tries z g.call (g.lost + lost) from u
-    tries = let t = after_turn in record {
-      memory = t.memory;
-      since = t.since;
-      unplaced = unplaced_on from v u (went_of walk.fresh stood.1.1)
-          (unplaced_at z g.call g.lost lost [] goes.own walk from v u goes.turned walk.fresh stood.1.1) (trod_unplaced lost v u goes.turned.trod);
-    }
-      where
-        went_of : (fresh : Bool) → Begun fresh z g.call g.lost from v → v.known.number ≡ from.known.number
-        went_of true b = b.0.went.number
-        went_of false b = b.since.went.number
+      tries : Tries z g.call (g.lost + lost) from u
+      tries = let t = after_turn in record {
+        memory = t.memory;
+        since = t.since;
+        unplaced = unplaced_on from v u (went_of walk.fresh stood.1.1)
+            (unplaced_at z g.call g.lost lost [] goes.own walk from v u goes.turned walk.fresh stood.1.1)
+            (trod_unplaced lost v u goes.turned.trod);
+      }
+        where
+          went_of : (fresh : Bool) → Begun fresh z g.call g.lost from v → v.known.number ≡ from.known.number
+          went_of true b = b.0.went.number
+          went_of false b = b.since.went.number
 
-    carries : Carries share g.call g.fresh from u free p
-    carries = carries_rest share g.call g.fresh from v u free p goes.turned.trod.stepped (trod_none lost [] v u goes.turned.trod)
-        goes.turned.rest x.carries
+      carries : Carries share g.call g.fresh from u free p
+      carries = carries_rest share g.call g.fresh from v u free p goes.turned.trod.stepped (trod_none lost [] v u goes.turned.trod)
+          goes.turned.rest x.carries
 
   -- It came to a greater key.
-  pub treads_on : (w' : Walk) → GoesOn z walk w' v u → w'.call ≡ walk.call → (from : ListView) (free : List ℕ) → IsUnder z share g v p from free
+  pub treads_on : (w' : Walk) → GoesOn z walk w' v u → w'.call ≡ walk.call → (from : ListView) (free : List ℕ) → IsUnder z share g v p from
+      free
       → ListTurned z share g (record g { next = Walks w' }) v u p p On
   treads_on w' goes asked from0 free0 x0 = record {
     stepped = goes.goes.turned.trod.stepped;
@@ -291,7 +295,8 @@ module _ (z : Sizes) (share : ℕ) (g : ListGoing) (walk : Walk) (v u : ListView
       own_call = sym arrives.turned.same.call ∙ (arrives.found.call_is ∙ begun_so.0)
 
       trodden : Trodden z g.call (g.lost + 0) from u
-      trodden = trodden_at z g.call g.lost 0 arrives.calls arrives.own walk from v u arrives.turned walk.fresh begun_so.1.1 arrives.turned.from
+      trodden = trodden_at z g.call g.lost 0 arrives.calls arrives.own walk from v u arrives.turned walk.fresh begun_so.1.1
+          arrives.turned.from
 
       before : Unplaced from v
       before = unplaced_at z g.call g.lost 0 arrives.calls arrives.own walk from v u arrives.turned walk.fresh begun_so.1.1
@@ -324,7 +329,8 @@ module _ (z : Sizes) (share : ℕ) (g : ListGoing) (walk : Walk) (v u : ListView
         settled = λ plain. replied_on g.call (reply_at g.call a) u.known.own.start from v u number before (replied g.call own_call plain);
         opened = λ opens. let o = arrives.answers.goes_on (ap (λ (c : Call). changes (reply_at c a)) own_call ∙ opens) in (
           unplaced_on from v u number before (arrives.turned.trod.stepped.placed ∙ (ap (λ (l : List Placed).
-              placed_by v.known.number v.order ++ l) (arrives.turned.trod.calls_are ∙ o.1) ∙ append-nil (placed_by v.known.number v.order))),
+              placed_by v.known.number v.order ++ l) (arrives.turned.trod.calls_are ∙ o.1)
+              ∙ append-nil (placed_by v.known.number v.order))),
           subst (λ (s : ℕ). IsRight (log_of u.order) s (key_of g.call) a) (sym arrives.turned.same.start)
               (subst (λ (c : Call). IsRight (log_of u.order) arrives.own.start (key_of c) a) own_call o.2),
         );

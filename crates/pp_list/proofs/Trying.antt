@@ -1,7 +1,7 @@
 -- The later turns of a call that changes its list, by what they tried.
-use Rattle.std.proofs.Common.{◌≡◌, ◌≢◌, ◌⊎◌, ℕ, zero, suc, ◌+◌, ◌*◌, ◌<◌, ◌≤◌, Bool, true, false, cond, List, [], ◌∷◌, ◌++◌, map}
+use Rattle.std.proofs.Common.{◌≡◌, ◌≢◌, ℕ, zero, suc, ◌+◌, ◌<◌, ◌≤◌, Bool, true, false, cond, List, [], ◌∷◌, map}
 use Rattle.std.proofs.Common.{length, get_or, set, refl, sym, ap, ◌∙◌}
-use Rattle.std.proofs.Common.{subst, inl, inr, ⊎_elim, Option, Some, None, arith, length-append, append-nil}
+use Rattle.std.proofs.Common.{subst, inl, inr, ⊎_elim, Option, Some, None, arith, length-append}
 use Rattle.std.specs.Prelude.{◌&&◌}
 use Rattle.std.proofs.Math.Bool.{false≢true}
 use Rattle.std.proofs.lemmas.Bool.{cases_lt}
@@ -9,17 +9,14 @@ use Rattle.pp_link.specs.declared.layout.Sizes.{Sizes}
 use Rattle.pp_link.specs.declared.link.Link.{Link}
 use Rattle.pp_link.specs.Links.{word_of, target}
 use Rattle.pp_pool.specs.declared.fresh.Fresh.{Fresh}
-use Rattle.pp_pool.specs.Taken.{IsPrivate}
 use Rattle.pp_model.specs.declared.Call.{Call}
-use Rattle.pp_model.specs.declared.Call.TheVariants.{Insert}
-use Rattle.pp_model.specs.declared.Turned.{Turned}
-use Rattle.pp_model.specs.declared.Turned.TheVariants.{On, Done}
+use Rattle.pp_model.specs.declared.Turned.TheVariants.{On}
 use Rattle.pp_model.specs.declared.steps.Step.{Step}
-use Rattle.pp_model.specs.MapCalls.{WentOn, next_kind}
+use Rattle.pp_model.specs.MapCalls.{next_kind}
 use Rattle.pp_model.specs.Calls.{key_of}
 use Rattle.pp_rule.specs.declared.views.PrivateRecord.{PrivateRecord}
 use Rattle.pp_rule.specs.declared.views.WalkSlot.{WalkSlot}
-use Rattle.pp_rule.specs.Lists.{IsIn, times}
+use Rattle.pp_rule.specs.Lists.{times}
 use Rattle.pp_rule.specs.Rule.{number_of}
 use Rattle.pp_rule.specs.Orders.{log_of}
 use Rattle.pp_rule.specs.Views.{slot, blank}
@@ -34,26 +31,26 @@ use Rattle.pp_base.specs.Named.{NamedStep, name_of, Made, guards, detaches}
 use Rattle.pp_base.specs.Passes.{IsAtRest}
 use Rattle.pp_base.specs.Sources.{learning_at, side_number, source_place}
 use Rattle.pp_link.specs.Places.{frontier_place}
-use Rattle.pp_calls.specs.Steps.{Stepped, HasOwn, StandsThen}
-use Rattle.pp_calls.proofs.Growing.{stepped_made, stepped_both}
+use Rattle.pp_calls.specs.Steps.{Stepped}
+use Rattle.pp_calls.proofs.Growing.{stepped_made}
 use Rattle.pp_calls.proofs.Remaining.{stands_made}
 use Rattle.pp_purse.proofs.Stretches.{flushed_purse, none_made}
 use Rattle.std.proofs.lemmas.List.{length-map}
 use Rattle.pp_purse.specs.Steps.{PurseSteps}
 use Rattle.pp_shelf.specs.Runs.{map_sizes, steps_made}
-use Rattle.pp_unlink.specs.Invalidation.{SameFree, Flushed}
-use Rattle.pp_unlink.specs.Unlinking.{Unlinks, Exchanges, Misses, MayFlush}
+use Rattle.pp_unlink.specs.Invalidation.{SameFree}
+use Rattle.pp_unlink.specs.Unlinking.{Unlinks, Exchanges, MayFlush}
 use Rattle.pp_unlink.specs.declared.unlinking.Unlink.{Unlink}
-use Rattle.pp_unlink.specs.declared.unlinking.Unlink.TheVariants.{Detached, Changed}
+use Rattle.pp_unlink.specs.declared.unlinking.Unlink.TheVariants.{Detached}
 use Rattle.pp_lists.specs.Lists.{ListPass, list_chain, list_frozen}
 use Rattle.pp_lists.specs.Walks.{bucket}
 use Rattle.pp_lists.specs.Turns.{ListView, EndsPast}
 use Rattle.pp_lists.specs.Losses.{list_reader, finds}
 use Rattle.pp_lists.proofs.Losing.{finds_none}
 use Rattle.pp_turns.specs.Tallies.{losing}
-use Rattle.pp_turns.specs.Turns.{Since, SawLast, Unplaced, WasAbsent}
+use Rattle.pp_turns.specs.Turns.{Since, WasAbsent}
 use Rattle.pp_turns.proofs.Placing.{unplaced_made, unplaced_on, absent_on}
-use Rattle.pp_turns.proofs.Stretches.{since_on, saw_last, steps_named, steps_both, stretch_both}
+use Rattle.pp_turns.proofs.Stretches.{since_on, saw_last, steps_named, stretch_both}
 use Rattle.pp_walk.specs.declared.walk.Found.{Found}
 use Rattle.pp_walk.specs.Effects.{Tried, MayFill, DetachesSo}
 use Rattle.pp_walk.specs.Parts.{GathersNone}
@@ -61,9 +58,9 @@ use Rattle.pp_walk.specs.Roles.{IsFound, IsAnchor, is_look}
 use Rattle.pp_list.specs.declared.going.ListGoing.{ListGoing}
 use Rattle.pp_list.specs.declared.going.Next.{Next}
 use Rattle.pp_list.specs.declared.going.Next.TheVariants.{Detaches, Publishes}
-use Rattle.pp_list.specs.Purses.{HasOut, out_of}
-use Rattle.pp_list.specs.Going.{Tries, Inserts, HoldsFirst, Stands, Carries, IsUnder, kind_of, going_of, is_after}
-use Rattle.pp_list.specs.Turned.{SameGoing, HasLost, ListTurned, Part}
+use Rattle.pp_list.specs.Purses.{HasOut}
+use Rattle.pp_list.specs.Going.{Tries, Inserts, HoldsFirst, Stands, Carries, IsUnder, kind_of, is_after}
+use Rattle.pp_list.specs.Turned.{HasLost, ListTurned}
 use Rattle.pp_list.proofs.Arriving.{may_fill, holds_first}
 use Rattle.pp_list.proofs.Calm.{named_ran}
 
@@ -71,12 +68,13 @@ use Rattle.pp_list.proofs.Calm.{named_ran}
 module _ (z : Sizes) (g : ListGoing) (lost n : ℕ) (from v u : ListView) (t : Tried lost v u) (passes : z.passes ≡ v.known.sizes.passes)
     (start : u.known.own.start ≡ v.known.own.start) (k : Tries z g.call n from v) where
   pub tried_on : Tries z g.call (n + lost) from u
-  tried_on = let r = named_ran z g.call lost t.steps v u t.did (λ earlier. t.loses (map_sizes z) earlier passes) t.strikes k.memory n in record {
-    memory = r.0;
-    since = subst (λ (s : ℕ). Since list_reader (map_sizes z) g.call s (losing r.0 (n + lost)) from u) (sym start)
-        (since_on list_reader (map_sizes z) g.call v.known.own.start (losing k.memory n) (losing r.0 (n + lost)) from v u k.since r.1);
-    unplaced = unplaced_on from v u k.since.went.number k.unplaced (unplaced_made t.steps v u t.did);
-  }
+  tried_on = let r = named_ran z g.call lost t.steps v u t.did (λ earlier. t.loses (map_sizes z) earlier passes) t.strikes k.memory n in
+      record {
+        memory = r.0;
+        since = subst (λ (s : ℕ). Since list_reader (map_sizes z) g.call s (losing r.0 (n + lost)) from u) (sym start)
+            (since_on list_reader (map_sizes z) g.call v.known.own.start (losing k.memory n) (losing r.0 (n + lost)) from v u k.since r.1);
+        unplaced = unplaced_on from v u k.since.went.number k.unplaced (unplaced_made t.steps v u t.did);
+      }
 
 -- steps that lose a turn are some
 pub tried_long : (z : Sizes) (v u : ListView) (t : Tried 1 v u) → z.passes ≡ v.known.sizes.passes → 0 < length (steps_made v u)
@@ -120,7 +118,8 @@ held_set (w ∷ ws) (suc i) (suc j) x e = held_set ws i j x e
 held_learning : (i side word j : ℕ) (q : ListPass) → (slot (learning list_frozen i side word q) j).held ≡ (slot q j).held
 held_learning i side word j q = by (list_frozen word && (slot q i).held)
   where
-    by : (b : Bool) → (slot (cond b (record q { walk = set q.walk i (record (slot q i) { learnt = (side, word) ∷ (slot q i).learnt }) }) q) j).held
+    by : (b : Bool) → (slot (cond b (record q { walk = set q.walk i (record (slot q i) { learnt = (side, word) ∷ (slot q i).learnt }) }) q)
+        j).held
         ≡ (slot q j).held
     by true = held_set q.walk i j (record (slot q i) { learnt = (side, word) ∷ (slot q i).learnt }) refl
     by false = refl
@@ -130,8 +129,10 @@ held_at (Head h) side word j q = refl
 held_at (Word i) side word j q = held_learning i (side_number side) word j q
 
 -- a flush leaves the walk words
-pub flush_steps : (z : Sizes) (v b : ListView) → length v.known.chains ≤ 4 → MayFlush 1 z v b → (names : List NamedStep) × PurseSteps z names v b
-flush_steps z v b few f = ⊎_elim (λ (less : length v.known.chains < 4). let none : List NamedStep = [] in (none, none_made z v b (f.few less)))
+pub flush_steps : (z : Sizes) (v b : ListView) → length v.known.chains ≤ 4 → MayFlush 1 z v b → (names : List NamedStep)
+    × PurseSteps z names v b
+flush_steps z v b few f = ⊎_elim (λ (less : length v.known.chains < 4). let none : List NamedStep = [] in
+    (none, none_made z v b (f.few less)))
     (λ (more : 4 ≤ length v.known.chains). flushed_purse 1 z 4 v b (f.full (omega arith))) (cases_lt (length v.known.chains) 4)
 
 walk_flushed : (z : Sizes) (v b : ListView) → length v.known.chains ≤ 4 → MayFlush 1 z v b → b.known.walk ≡ v.known.walk
@@ -141,9 +142,11 @@ walk_flushed z v b few f = (flush_steps z v b few f).1.walk
 pub long_behind : (z : Sizes) (v b u : ListView) → length v.known.chains ≤ 4 → MayFlush 1 z v b → (s : NamedStep) (names : List NamedStep)
     → Made (s ∷ names) b u → 0 < length (steps_made v u)
 long_behind z v b u few f s names made = let flush = flush_steps z v b few f in
-    let e = ap (λ (l : List Step). length l) (stretch_both v b u (stepped_made flush.0 v b flush.1.made) (stepped_made (s ∷ names) b u made))
+    let e = ap (λ (l : List Step). length l) (stretch_both v b u (stepped_made flush.0 v b flush.1.made)
+    (stepped_made (s ∷ names) b u made))
     ∙ length-append (steps_made v b) (steps_made b u) in
-    let n = sym (length-map (steps_made b u) name_of) ∙ ap (λ (l : List NamedStep). length l) (steps_named (s ∷ names) b u made) in omega arith
+    let n = sym (length-map (steps_made b u) name_of) ∙ ap (λ (l : List NamedStep). length l) (steps_named (s ∷ names) b u made) in
+    omega arith
 
 -- What was gathered is held still after a link moved.
 pub missed_holds : (z : Sizes) (anchor : Place) (first end : ℕ) (v u : ListView) → length v.known.chains ≤ 4
@@ -165,7 +168,8 @@ anchor_walk z q r k (Word i) same a =
     subst (λ (ws : List WalkSlot). (i < 5) × ((get_or ws i blank).held ≡ true) × ((get_or ws i blank).key < k)
     × (bucket z.heads (get_or ws i blank).key ≡ bucket z.heads k)) (sym same) a
 
-pub fill_walk : (z : Sizes) (q r : ListPass) (k : ℕ) (at : Place) (end : Link) → r.walk ≡ q.walk → MayFill z q at end k → MayFill z r at end k
+pub fill_walk : (z : Sizes) (q r : ListPass) (k : ℕ) (at : Place) (end : Link) → r.walk ≡ q.walk → MayFill z q at end k
+    → MayFill z r at end k
 fill_walk z q r k at end same m = record {
   anchored = anchor_walk z q r k at same m.anchored;
   plain = m.plain;
@@ -186,7 +190,8 @@ inserts_later call v u s own i = record {
 pub insert_changes : (call : Call) (v : ListView) → Inserts call v → is_look call ≡ false
 insert_changes call v i = ap is_look i.call_is
 
-module _ (z : Sizes) (share : ℕ) (g : ListGoing) (f : Found) (v : ListView) (p : Purse) (at : g.next ≡ Detaches f) (from : ListView) (free : List ℕ)
+module _ (z : Sizes) (share : ℕ) (g : ListGoing) (f : Found) (v : ListView) (p : Purse) (at : g.next ≡ Detaches f) (from : ListView)
+    (free : List ℕ)
     (x : IsUnder z share g v p from free) where
   pub at_detach : Tries z g.call g.lost from v × (Inserts g.call v × (IsFound z v.known g.call f × ((f.equal ≡ false) × (f.chain ≢ 0))))
   at_detach = subst (λ (n : Next). Stands z g.call g.races g.lost n from v) at x.stands

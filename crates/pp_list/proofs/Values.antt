@@ -1,15 +1,13 @@
 -- Loads of the fields of held records find nothing.
-use Rattle.std.proofs.Common.{◌≡◌, ℕ, ◌+◌, true, List, [], ◌∷◌, ◌++◌, refl, sym, ap, ◌∙◌, subst, ⊎_elim, arith}
-use Rattle.pp_model.specs.Pass.{MapSizes}
+use Rattle.std.proofs.Common.{◌≡◌, ℕ, true, [], ◌∷◌, ◌++◌, refl, subst, ⊎_elim, arith}
 use Rattle.pp_rule.specs.Lists.{IsIn}
 use Rattle.pp_rule.specs.Orders.{read_step}
 use Rattle.pp_rule.specs.Steps.{ReadField}
 use Rattle.pp_rule.proofs.Put.{in_one, in_either}
-use Rattle.pp_base.specs.Named.{NamedStep, Made}
+use Rattle.pp_base.specs.Named.{NamedStep}
 use Rattle.pp_base.proofs.Named.{made_append}
 use Rattle.pp_rule.specs.Orders.{only_walks}
 use Rattle.pp_lists.specs.Turns.{ListView}
-use Rattle.pp_lists.specs.Losses.{finds}
 use Rattle.pp_lists.proofs.Losing.{IsIdleKind, idle_finds, finds_append, onto}
 use Rattle.pp_walk.specs.Trod.{Idles}
 

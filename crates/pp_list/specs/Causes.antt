@@ -1,5 +1,5 @@
 -- The words in which a list says its causes.
-use Rattle.std.specs.Prelude.{◌≡◌, ℕ, ◌+◌, ◌-◌, ◌/◌, ◌<◌, true, cond, List, [], ◌∷◌, map}
+use Rattle.std.specs.Prelude.{◌≡◌, ℕ, ◌+◌, ◌-◌, ◌/◌, true, cond, List, [], ◌∷◌, map}
 use Rattle.pp_link.specs.Places.{cell_place}
 use Rattle.pp_model.specs.declared.Call.{Call}
 use Rattle.pp_model.specs.declared.steps.Step.{Step}

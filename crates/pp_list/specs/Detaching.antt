@@ -37,9 +37,10 @@ AreGone z v w = (n : ℕ) → IsIn n (numbers v.known.own.chain)
 abbrev pub HasMissed : Sizes → ListView → ListView → Type 0
 HasMissed z v w = (s : Step) × (IsIn s (steps_made v w) × (s.kind ≡ missed_step) × (is_past_shelves (map_sizes z) s.place ≡ true))
 
--- What was gathered was detached, or an exchange failed.
-pub record TriesToDetach (z : Sizes) (v w : ListView) (p p' : Purse) : Type 0 where
+-- What was gathered was detached, or an exchange failed. So many turns were lost by it.
+pub record TriesToDetach (z : Sizes) (lost : ℕ) (v w : ListView) (p p' : Purse) : Type 0 where
   pub after : MadeAfter z v w
+  pub lost_is : after.lost ≡ lost
   pub comes : AreGone z v w ⊎ HasMissed z v w
   pub free : SameFree p p'
   pub start : w.known.own.start ≡ v.known.own.start

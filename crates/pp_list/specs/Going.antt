@@ -1,14 +1,13 @@
 -- A call on a list that is going on, by the views of its pass.
-use Rattle.std.specs.Prelude.{◌≡◌, ◌≢◌, ◌⊎◌, ℕ, ◌+◌, ◌^◌, ◌<◌, ◌≤◌, Bool, true, false, cond, List, [], Option, Some, None}
+use Rattle.std.specs.Prelude.{◌≡◌, ◌≢◌, ◌⊎◌, ℕ, ◌^◌, ◌<◌, Bool, true, false, cond, List, Option, None}
 use Rattle.pp_link.specs.declared.layout.Sizes.{Sizes}
-use Rattle.pp_link.specs.Links.{target, word_of}
 use Rattle.pp_pool.specs.declared.fresh.Fresh.{Fresh}
 use Rattle.pp_model.specs.declared.Call.{Call}
-use Rattle.pp_model.specs.declared.Call.TheVariants.{Get, Insert, Remove, Cut}
+use Rattle.pp_model.specs.declared.Call.TheVariants.{Insert}
 use Rattle.pp_model.specs.declared.Reply.TheVariants.{Took}
 use Rattle.pp_model.specs.declared.steps.Step.{Step}
 use Rattle.pp_model.specs.Calls.{key_of, Takes}
-use Rattle.pp_model.specs.Pass.{PassView, GoingView}
+use Rattle.pp_model.specs.Pass.{GoingView}
 use Rattle.pp_model.specs.MapCalls.{LeftAlone}
 use Rattle.pp_rule.specs.Orders.{log_of}
 use Rattle.pp_rule.specs.Views.{slot, value_of}
@@ -24,8 +23,6 @@ use Rattle.pp_lists.specs.Turns.{ListView}
 use Rattle.pp_lists.specs.Losses.{list_reader}
 use Rattle.pp_turns.specs.Tallies.{losing, effected}
 use Rattle.pp_turns.specs.Turns.{Since, Waits, Unplaced, Struck, WasAbsent, Kept}
-use Rattle.pp_walk.specs.declared.walk.Walk.{Walk}
-use Rattle.pp_walk.specs.declared.walk.Found.{Found}
 use Rattle.pp_walk.specs.Roles.{IsWalk, IsFound, lower_of, is_look}
 use Rattle.pp_walk.specs.Effects.{MayFill, MayDetachRun}
 use Rattle.pp_walk.specs.Parts.{GathersNone}

@@ -6,3 +6,4 @@ pub mod Answers
 pub mod Turned
 pub mod Detaching
 pub mod Begun
+pub mod Lone

@@ -1,5 +1,5 @@
 -- What a call on a list has of its purse, and what its parts make of it.
-use Rattle.std.specs.Prelude.{◌≡◌, ℕ, ◌+◌, ◌<◌, ◌≤◌, List, length, Option, Some, None}
+use Rattle.std.specs.Prelude.{◌≡◌, ℕ, ◌+◌, ◌≤◌, List, length, Option, Some, None}
 use Rattle.pp_link.specs.declared.layout.Sizes.{Sizes}
 use Rattle.pp_pool.specs.declared.fresh.Fresh.{Fresh}
 use Rattle.pp_pool.specs.Taken.{IsPrivate}

@@ -1,11 +1,10 @@
 -- What a part of a turn makes of a call that is going on a list.
-use Rattle.std.specs.Prelude.{◌≡◌, ◌⊎◌, ℕ, ◌+◌, ◌<◌, ◌≤◌, Bool, true, false, List, length, [], Option, Some, None}
+use Rattle.std.specs.Prelude.{◌≡◌, ◌⊎◌, ℕ, ◌+◌, ◌<◌, true, false, List, length, Some, None}
 use Rattle.pp_link.specs.declared.layout.Sizes.{Sizes}
-use Rattle.pp_model.specs.declared.Answer.{Answer}
 use Rattle.pp_model.specs.declared.Reply.{Reply}
 use Rattle.pp_model.specs.declared.Turned.{Turned}
 use Rattle.pp_model.specs.Calls.{key_of, changes, reply_at}
-use Rattle.pp_model.specs.MapCalls.{AnswersCall, IfOn, IfDone, WentOn, took_effect}
+use Rattle.pp_model.specs.MapCalls.{Answered, IfOn, IfDone, WentOn, took_effect}
 use Rattle.pp_rule.specs.Orders.{log_of}
 use Rattle.pp_base.specs.declared.purse.Purse.{Purse}
 use Rattle.pp_base.specs.Named.{NamedStep, Made}
@@ -38,7 +37,8 @@ pub record SameGoing (g g' : ListGoing) : Type 0 where
 abbrev pub Advances : ListGoing → ListGoing → Type 0
 Advances g g' = ((g'.lost ≡ g.lost + 1) × (g'.lost < g'.races)) ⊎ ((g'.lost ≡ g.lost) × (kind_of g.next < kind_of g'.next))
 
--- The last part of a turn, of a call that had not taken effect, of which so much was known before it. What is known speaks of the view at which the call was
+-- The last part of a turn, of a call that had not taken effect, of which so much was known before it. What is known speaks of the
+-- view at which the call was
 -- begun and of the free numbers then.
 pub record Part (z : Sizes) (share : ℕ) (Known : ListView → List ℕ → Type 0) (g g' : ListGoing) (v w : ListView) (p' : Purse)
     (result : Turned) : Type 0 where
@@ -50,7 +50,8 @@ pub record Part (z : Sizes) (share : ℕ) (Known : ListView → List ℕ → Typ
   pub advances : IfOn result (Advances g g')
   pub goes_on : IfOn result ((from : ListView) (free : List ℕ) → Known from free → IsUnder z share g' w p' from free)
   pub answered : IfDone result (λ answer. (from : ListView) (free : List ℕ) → Known from free → StandsThen w
-      → AnswersCall list_meaning (map_sizes z) g.call g.races (pool_view from free share) (pool_view w p'.free.items share) answer)
+      → Answered list_meaning (map_sizes z) g.call g.races (pool_view from free share) (pool_view w p'.free.items share) answer
+      g'.lost)
 
 -- A turn of it was lost just now.
 pub record HasLost (z : Sizes) (share : ℕ) (g : ListGoing) (v : ListView) (p : Purse) (from : ListView) (free : List ℕ) : Type 0 where
@@ -85,7 +86,8 @@ pub record FoundNoRecord (z : Sizes) (share : ℕ) (g : ListGoing) (v : ListView
   pub ran_out : RanOut z 1 was v before p
 
 -- It has a record now for its insert, which goes on.
-pub record HasRecord (z : Sizes) (share : ℕ) (g : ListGoing) (f : Fresh) (v : ListView) (p : Purse) (from : ListView) (free : List ℕ) : Type 0 where
+pub record HasRecord (z : Sizes) (share : ℕ) (g : ListGoing) (f : Fresh) (v : ListView) (p : Purse) (from : ListView) (free : List ℕ) : Type
+    0 where
   pub tries : Tries z g.call g.lost from v
   pub inserts : Inserts g.call v
   pub carries : Carries share g.call (Some f) from v free p
@@ -115,4 +117,5 @@ pub record ListTurned (z : Sizes) (share : ℕ) (g g' : ListGoing) (v w : ListVi
   pub went : IfOn result (WentOn (going_of v.known g) (going_of w.known g'))
   pub goes_on : IfOn result ((from : ListView) (free : List ℕ) → IsUnder z share g v p from free → IsUnder z share g' w p' from free)
   pub answered : IfDone result (λ answer. (from : ListView) (free : List ℕ) → IsUnder z share g v p from free → StandsThen w
-      → AnswersCall list_meaning (map_sizes z) g.call g.races (pool_view from free share) (pool_view w p'.free.items share) answer)
+      → Answered list_meaning (map_sizes z) g.call g.races (pool_view from free share) (pool_view w p'.free.items share) answer
+      g'.lost)

@@ -7,6 +7,7 @@ ghost use Rattle.pp_model.specs.MapCalls.{IfDone};
 ghost use Rattle.pp_turns.specs.Passes.{IsResting};
 ghost use Rattle.pp_list.specs.Begun.{call_of, BeginsOn};
 ghost use Rattle.pp_list.specs.Going.{IsUnder};
+ghost use Rattle.pp_list.specs.Lone.{LoneAt, LoneTurn};
 ghost use Rattle.pp_list.specs.Turned.{ListTurned};
 
 use crate::going::{ListGoing, ListOp, Next};
@@ -45,7 +46,8 @@ impl ListGoing {
         }
     }
 
-    /// Makes the call's next turn.
+    /// Makes the call's next turn. A pass that is alone on its pool loses none where no record that could be reached was removed as the
+    /// call began, and none is after the call.
     pub fn turn(&mut self, pool: &Pool<ListShape>, pass: &mut Pass<ListShape>) -> Turned
         requires fits { Fits pool.now.table.shared.table_id pool.now.layout pass.old.seat }
         requires under { (from : ListView) × ((free : List ℕ)
@@ -53,6 +55,8 @@ impl ListGoing {
         ensures same { IsSame pass.old.seat pass.new.seat }
         ensures turned { ListTurned pool.now.layout pass.old.share self.old self.new (view pass.old.seat) (view pass.new.seat)
             pass.old.purse pass.new.purse result }
+        ensures alone { LoneAt pool.now.layout self.old.next (view pass.old.seat)
+            → LoneTurn pool.now.layout self.old self.new (view pass.new.seat) result }
         ensures resting { IfDone result (λ _. IsResting pass.new) }
     {
         match self.next {

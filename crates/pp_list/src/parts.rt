@@ -8,7 +8,11 @@ ghost use Rattle.pp_model.specs.MapCalls.{IfDone};
 ghost use Rattle.pp_turns.specs.Passes.{IsResting};
 ghost use Rattle.pp_walk.specs.Roles.{is_look, IsWalk};
 ghost use Rattle.pp_list.specs.Answers.{Ends};
+ghost use Rattle.pp_lists.specs.Clean.{IsBare};
+ghost use Rattle.pp_walk.specs.Lone.{words_of};
 ghost use Rattle.pp_list.specs.Going.{HoldsFirst};
+ghost use Rattle.pp_walk.specs.Bare.{LoneEnd};
+ghost use Rattle.pp_list.specs.Lone.{LoneTurn};
 ghost use Rattle.pp_list.specs.Purses.{HasOut};
 ghost use Rattle.pp_list.specs.Turned.{Part, HasLost, HasArrived, HasEnded};
 
@@ -49,6 +53,8 @@ pub fn end(
     ensures done { result ≡ Turned.Done answer }
     ensures ended { Ends pool.now.layout pass.old.share going.old.races going.old.call going.old.fresh answer
         (view pass.old.seat) (view pass.new.seat) pass.old.purse pass.new.purse }
+    ensures alone { pool.now.layout.passes ≡ 1 → IsBare pool.now.layout (words_of pool.now.layout (view pass.old.seat))
+        → IsBare pool.now.layout (words_of pool.now.layout (view pass.new.seat)) }
     ensures resting { IsResting pass.new }
 {
     let looks = looks(going.call);
@@ -74,7 +80,8 @@ pub fn lose(
     requires home { (going.old.head < pool.now.layout.heads) × (going.old.head ≡ bucket pool.now.layout.heads (key_of going.old.call)) }
     requires walk { (walk.call ≡ going.old.call) × IsWalk pool.now.layout (known pass.old.seat) walk × (walk.fresh ≡ false) }
     ensures same { IsSame pass.old.seat pass.new.seat }
-    ensures part { Part pool.now.layout pass.old.share (HasLost pool.now.layout pass.old.share going.old (view pass.old.seat) pass.old.purse)
+    ensures part { Part pool.now.layout pass.old.share (HasLost pool.now.layout pass.old.share going.old (view pass.old.seat)
+        pass.old.purse)
         going.old going.new (view pass.old.seat) (view pass.new.seat) pass.new.purse result }
     ensures early { going.new.struck ≡ false }
     ensures resting { IfDone result (λ _. IsResting pass.new) }
@@ -104,7 +111,8 @@ pub fn begin_again(
     requires own { ((known pass.old.seat).own.going ≡ true) × ((known pass.old.seat).own.call ≡ going.old.call)
         × HoldsFirst (known pass.old.seat) }
     ensures same { IsSame pass.old.seat pass.new.seat }
-    ensures part { Part pool.now.layout pass.old.share (HasLost pool.now.layout pass.old.share going.old (view pass.old.seat) pass.old.purse)
+    ensures part { Part pool.now.layout pass.old.share (HasLost pool.now.layout pass.old.share going.old (view pass.old.seat)
+        pass.old.purse)
         going.old going.new (view pass.old.seat) (view pass.new.seat) pass.new.purse result }
     ensures early { going.new.struck ≡ false }
     ensures resting { IfDone result (λ _. IsResting pass.new) }
@@ -128,6 +136,8 @@ fn arrive_get(
     ensures part { Part pool.now.layout pass.old.share (HasArrived pool.now.layout pass.old.share going.old found (view pass.old.seat)
         pass.old.purse) going.old going.new (view pass.old.seat) (view pass.new.seat) pass.new.purse result }
     ensures early { going.new.struck ≡ false }
+    ensures alone { LoneEnd pool.now.layout found (view pass.old.seat)
+        → LoneTurn pool.now.layout going.old going.new (view pass.new.seat) result }
     ensures resting { IfDone result (λ _. IsResting pass.new) }
 {
     if !found.equal {
@@ -154,6 +164,8 @@ fn arrive_insert(
     ensures part { Part pool.now.layout pass.old.share (HasArrived pool.now.layout pass.old.share going.old found (view pass.old.seat)
         pass.old.purse) going.old going.new (view pass.old.seat) (view pass.new.seat) pass.new.purse result }
     ensures early { going.new.struck ≡ false }
+    ensures alone { LoneEnd pool.now.layout found (view pass.old.seat)
+        → LoneTurn pool.now.layout going.old going.new (view pass.new.seat) result }
     ensures resting { IfDone result (λ _. IsResting pass.new) }
 {
     if found.equal {
@@ -182,6 +194,8 @@ fn arrive_remove(
     ensures part { Part pool.now.layout pass.old.share (HasArrived pool.now.layout pass.old.share going.old found (view pass.old.seat)
         pass.old.purse) going.old going.new (view pass.old.seat) (view pass.new.seat) pass.new.purse result }
     ensures early { going.new.struck ≡ false }
+    ensures alone { LoneEnd pool.now.layout found (view pass.old.seat)
+        → LoneTurn pool.now.layout going.old going.new (view pass.new.seat) result }
     ensures resting { IfDone result (λ _. IsResting pass.new) }
 {
     if !found.equal {
@@ -207,6 +221,8 @@ fn arrive_cut(
     ensures part { Part pool.now.layout pass.old.share (HasArrived pool.now.layout pass.old.share going.old found (view pass.old.seat)
         pass.old.purse) going.old going.new (view pass.old.seat) (view pass.new.seat) pass.new.purse result }
     ensures early { going.new.struck ≡ false }
+    ensures alone { LoneEnd pool.now.layout found (view pass.old.seat)
+        → LoneTurn pool.now.layout going.old going.new (view pass.new.seat) result }
     ensures resting { IfDone result (λ _. IsResting pass.new) }
 {
     if !found.equal {
@@ -233,6 +249,8 @@ pub fn arrive(
     ensures part { Part pool.now.layout pass.old.share (HasArrived pool.now.layout pass.old.share going.old found (view pass.old.seat)
         pass.old.purse) going.old going.new (view pass.old.seat) (view pass.new.seat) pass.new.purse result }
     ensures early { going.new.struck ≡ false }
+    ensures alone { LoneEnd pool.now.layout found (view pass.old.seat)
+        → LoneTurn pool.now.layout going.old going.new (view pass.new.seat) result }
     ensures resting { IfDone result (λ _. IsResting pass.new) }
 {
     match going.call {

@@ -1,16 +1,20 @@
 //! The turns of a call, one function for each kind.
 
-ghost use Rattle.std.specs.Prelude.{◌≡◌, ◌<◌, ℕ, false, List, length};
+ghost use Rattle.std.specs.Prelude.{◌≡◌, ◌<◌, ◌≤◌, ℕ, false, List, length};
 ghost use Rattle.pp_base.specs.Passes.{known, view, Fits, IsSame, IsAtRest};
+ghost use Rattle.pp_lists.specs.Clean.{IsBare};
 ghost use Rattle.pp_lists.specs.Turns.{ListView};
 ghost use Rattle.pp_lists.specs.Walks.{bucket};
 ghost use Rattle.pp_model.specs.Calls.{key_of};
 ghost use Rattle.pp_shelf.specs.Runs.{steps_made};
 ghost use Rattle.pp_walk.specs.Effects.{MayFill};
+ghost use Rattle.pp_walk.specs.Lone.{words_of};
 ghost use Rattle.pp_model.specs.MapCalls.{IfDone};
 ghost use Rattle.pp_turns.specs.Passes.{IsResting};
 ghost use Rattle.pp_list.specs.Detaching.{TriesToDetach};
 ghost use Rattle.pp_list.specs.Going.{IsUnder, MayUnlink, HoldsFirst, Inserts};
+ghost use Rattle.pp_walk.specs.Bare.{LoneEnd};
+ghost use Rattle.pp_list.specs.Lone.{LoneMarked, LoneAt, LoneTurn};
 ghost use Rattle.pp_list.specs.Purses.{HasOut, LooksAway};
 ghost use Rattle.pp_list.specs.Turned.{ListTurned, Part, HasRecord};
 
@@ -40,6 +44,8 @@ pub fn walk_on(
     ensures same { IsSame pass.old.seat pass.new.seat }
     ensures turned { ListTurned pool.now.layout pass.old.share going.old going.new (view pass.old.seat) (view pass.new.seat)
         pass.old.purse pass.new.purse result }
+    ensures alone { LoneAt pool.now.layout going.old.next (view pass.old.seat)
+        → LoneTurn pool.now.layout going.old going.new (view pass.new.seat) result }
     ensures resting { IfDone result (λ _. IsResting pass.new) }
 {
     let mut walk = walk;
@@ -67,6 +73,8 @@ pub fn detach(
     ensures same { IsSame pass.old.seat pass.new.seat }
     ensures turned { ListTurned pool.now.layout pass.old.share going.old going.new (view pass.old.seat) (view pass.new.seat)
         pass.old.purse pass.new.purse result }
+    ensures alone { LoneAt pool.now.layout going.old.next (view pass.old.seat)
+        → LoneTurn pool.now.layout going.old going.new (view pass.new.seat) result }
     ensures resting { IfDone result (λ _. IsResting pass.new) }
 {
     if detach_run(pool, pass, found.anchor, found.first, found.end) {
@@ -90,6 +98,8 @@ pub fn mark(
     ensures same { IsSame pass.old.seat pass.new.seat }
     ensures turned { ListTurned pool.now.layout pass.old.share going.old going.new (view pass.old.seat) (view pass.new.seat)
         pass.old.purse pass.new.purse result }
+    ensures alone { LoneAt pool.now.layout going.old.next (view pass.old.seat)
+        → LoneTurn pool.now.layout going.old going.new (view pass.new.seat) result }
     ensures resting { IfDone result (λ _. IsResting pass.new) }
 {
     let Some(taken) = mark_end(pool, pass, found.word, going.call) else {
@@ -106,18 +116,24 @@ pub fn mark(
     Turned::On
 }
 
-/// Tries to detach the record that a remove or a cut marked, with what its walk gathered before.
-fn try_detach(pool: &Pool<ListShape>, pass: &mut Pass<ListShape>, marked: Marked)
+/// Tries to detach the record that a remove or a cut marked, with what its walk gathered before. It gives how many turns were lost
+/// by that: one where the anchor's link was another one.
+fn try_detach(pool: &Pool<ListShape>, pass: &mut Pass<ListShape>, marked: Marked) -> u64
     requires fits { Fits pool.now.table.shared.table_id pool.now.layout pass.old.seat }
     requires rest { IsAtRest (known pass.old.seat) pass.old.purse }
     requires may { (n : ℕ) × MayUnlink pool.now.layout (known pass.old.seat) marked n }
     ensures same { IsSame pass.old.seat pass.new.seat }
-    ensures tries { TriesToDetach pool.now.layout (view pass.old.seat) (view pass.new.seat) pass.old.purse pass.new.purse }
+    ensures few { result ≤ 1 }
+    ensures tries { TriesToDetach pool.now.layout result (view pass.old.seat) (view pass.new.seat) pass.old.purse pass.new.purse }
+    ensures alone { LoneMarked pool.now.layout marked (view pass.old.seat)
+        → (result ≡ 0) × IsBare pool.now.layout (words_of pool.now.layout (view pass.new.seat)) }
     ensures rest { IsAtRest (known pass.new.seat) pass.new.purse }
 {
-    if detach_run(pool, pass, marked.anchor, marked.first, marked.next) {
-        clear_after(pool, pass, marked.word);
+    if !detach_run(pool, pass, marked.anchor, marked.first, marked.next) {
+        return 1;
     }
+    clear_after(pool, pass, marked.word);
+    0
 }
 
 /// Answers a remove or a cut that has marked its record, whether that can be detached now or is left to later walks.
@@ -134,9 +150,11 @@ pub fn unlink(
     ensures same { IsSame pass.old.seat pass.new.seat }
     ensures turned { ListTurned pool.now.layout pass.old.share going.old going.new (view pass.old.seat) (view pass.new.seat)
         pass.old.purse pass.new.purse result }
+    ensures alone { LoneAt pool.now.layout going.old.next (view pass.old.seat)
+        → LoneTurn pool.now.layout going.old going.new (view pass.new.seat) result }
     ensures resting { IfDone result (λ _. IsResting pass.new) }
 {
-    try_detach(pool, pass, marked);
+    going.lost += try_detach(pool, pass, marked);
     end(going, pool, pass, Answer::Said(Reply::Took(marked.value)))
 }
 
@@ -189,6 +207,8 @@ fn put_in(
     ensures part { Part pool.now.layout pass.old.share (HasRecord pool.now.layout pass.old.share going.old fresh (view pass.old.seat)
         pass.old.purse) going.old going.new (view pass.old.seat) (view pass.new.seat) pass.new.purse result }
     ensures some_made { 0 < length (steps_made (view pass.old.seat) (view pass.new.seat)) }
+    ensures alone { LoneEnd pool.now.layout found (view pass.old.seat)
+        → LoneTurn pool.now.layout going.old going.new (view pass.new.seat) result }
     ensures resting { IfDone result (λ _. IsResting pass.new) }
 {
     let pair = pair_of(going.call);
@@ -217,6 +237,8 @@ pub fn publish(
     ensures same { IsSame pass.old.seat pass.new.seat }
     ensures turned { ListTurned pool.now.layout pass.old.share going.old going.new (view pass.old.seat) (view pass.new.seat)
         pass.old.purse pass.new.purse result }
+    ensures alone { LoneAt pool.now.layout going.old.next (view pass.old.seat)
+        → LoneTurn pool.now.layout going.old going.new (view pass.new.seat) result }
     ensures resting { IfDone result (λ _. IsResting pass.new) }
 {
     let had = going.fresh.take();

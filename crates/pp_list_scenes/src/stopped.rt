@@ -39,13 +39,13 @@ fn a_reader_stops_after_each_of_its_turns(rt: HostRuntime) {
 }
 
 /// A remove of 30 stops after so many turns. Another caller removes the other keys and reclaims. These records stay retired. When
-/// the remove goes on, it makes so many turns before its last one, of which so many are lost.
+/// the remove goes on, it makes so many turns before its last one. So many turns were lost by then, and so many in all.
 fn stop_a_remove(
     rt: &impl Abort,
     alloc: Global,
     (turns, later): (u32, u32),
     (freed, retired): (u32, &[u32]),
-    lost: u64,
+    (lost, in_all): (u64, u64),
 ) {
     let (table, mut first, mut second) = open_two(rt, alloc, 40);
     add_all(
@@ -66,19 +66,20 @@ fn stop_a_remove(
     assert_eq!(rt; second.retired(), retired);
     assert!(rt; second.retired().len() <= 9);
     go_on(rt, &table, &mut first, &mut going, later, lost);
-    end(rt, &table, &mut first, going, lost, Reply::Took(3));
+    end(rt, &table, &mut first, going, in_all, Reply::Took(3));
     close_two(rt, alloc, table, (first, second), &[], &ALL);
 }
 
 // Forty records are dealt by twenties: the keys 10 to 50 are the records 40 to 36. After its mark the remove holds 20 and 30. The
-// other caller then detaches 30 with 40, by one exchange.
+// other caller then detaches 30 with 40, by one exchange. Where it has detached 20, the remove's own exchange behind 20 finds
+// another word.
 #[test]
 fn a_remove_stops_after_each_of_its_turns(rt: HostRuntime) {
-    stop_a_remove(&rt, rt.alloc(), (0, 2), (4, &[]), 0);
-    stop_a_remove(&rt, rt.alloc(), (1, 3), (3, &[40]), 1);
-    stop_a_remove(&rt, rt.alloc(), (2, 3), (3, &[39]), 1);
-    stop_a_remove(&rt, rt.alloc(), (3, 1), (3, &[39]), 0);
-    stop_a_remove(&rt, rt.alloc(), (4, 0), (3, &[39, 38]), 0);
+    stop_a_remove(&rt, rt.alloc(), (0, 2), (4, &[]), (0, 0));
+    stop_a_remove(&rt, rt.alloc(), (1, 3), (3, &[40]), (1, 1));
+    stop_a_remove(&rt, rt.alloc(), (2, 3), (3, &[39]), (1, 1));
+    stop_a_remove(&rt, rt.alloc(), (3, 1), (3, &[39]), (0, 1));
+    stop_a_remove(&rt, rt.alloc(), (4, 0), (3, &[39, 38]), (0, 1));
 }
 
 // Forty records are dealt by twenties: the keys 10 to 100 are the records 40 to 31. The first caller has four chains in hand,

@@ -43,7 +43,8 @@ fn an_insert_keeps_its_record_over_a_lost_turn(rt: HostRuntime) {
 }
 
 // Fifteen records are dealt by fives: the keys 10, 20, 30 and 40 are the records 15, 14, 13 and 12. Two callers have marked 20
-// and 30 and make no turn. The third one's insert of 35 detaches both records by one exchange, before it publishes.
+// and 30 and make no turn. The third one's insert of 35 detaches both records by one exchange, before it publishes. Their own exchanges
+// find another word then.
 #[test]
 fn one_exchange_detaches_what_two_callers_marked(rt: HostRuntime) {
     let (table, mut first, mut second, mut third) = open_three(&rt, rt.alloc(), 15);
@@ -64,8 +65,8 @@ fn one_exchange_detaches_what_two_callers_marked(rt: HostRuntime) {
     go_on(&rt, &table, &mut third, &mut insert, 1, 0);
     find(&rt, &third, 1, &[], &[11]);
     end(&rt, &table, &mut third, insert, 0, Reply::Added);
-    end(&rt, &table, &mut first, twenty, 0, Reply::Took(1));
-    end(&rt, &table, &mut second, thirty, 0, Reply::Took(1));
+    end(&rt, &table, &mut first, twenty, 1, Reply::Took(1));
+    end(&rt, &table, &mut second, thirty, 1, Reply::Took(1));
     reclaim_so_many(&rt, &table, &mut third, 2);
     find(&rt, &third, 0, &[], &[14, 13]);
     let pairs = [(10, 1), (35, 1), (40, 1)];

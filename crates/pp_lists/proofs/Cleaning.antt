@@ -120,7 +120,8 @@ module _ (z : Sizes) (words : List ℕ) (g : ListState) (b : Base 1 z words g) (
 -- no record of a list that opens can be reached
 none_open : (z : Sizes) (n : ℕ) → 1 ≤ n → Reached 1 z (opening_words 0 list_head list_field z) n → ⊥
 none_open z n some (by_head h low to) =
-    let nil : target (head_word (opening_words 0 list_head list_field z) z h) ≡ 0 = ap target (opening_head 0 list_head list_field z h low) in
+    let nil : target (head_word (opening_words 0 list_head list_field z) z h) ≡ 0 = ap target (opening_head 0 list_head list_field z h low)
+    in
     omega arith
 none_open z n some (by_link m side is low to r) = none_open z m is.0 r
 

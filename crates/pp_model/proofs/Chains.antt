@@ -11,8 +11,7 @@ use Rattle.pp_model.specs.declared.Answer.TheVariants.{Said, Full, Lost}
 use Rattle.pp_model.specs.Lists.{IsPrefix, AtEach}
 use Rattle.pp_model.specs.Pass.{PassView, MapSizes, Meaning}
 use Rattle.pp_model.specs.MapCalls.{Says, AnswersCalls, none, more, SaidCall, said_call, said_calls, MineGrew}
-use Rattle.pp_model.specs.MapCalls.{LeavesPurse}
-use Rattle.pp_model.specs.Plain.{plain_meaning, PlainCause}
+use Rattle.pp_model.specs.MapCalls.{LeavesPurse, AnswersCall, IsClean, Undisturbed}
 use Rattle.pp_model.proofs.Positions.{slice_get_push}
 pub use Rattle.pp_model.proofs.Positions.{IsPrefix-refl, IsPrefix-trans}
 
@@ -33,27 +32,27 @@ pub caller_kept : (meaning : Meaning) (sizes : MapSizes) (budget : ℕ) (before 
     (answers : List Answer) → AnswersCalls meaning sizes budget before calls answers now → now.caller ≡ before.caller
 caller_kept meaning sizes budget before now calls answers none = refl
 caller_kept meaning sizes budget before now calls answers (more cs given then_at _ call answer ran made) =
-    made.grew.caller ∙ caller_kept meaning sizes budget before then_at cs given ran
+    made.told.grew.caller ∙ caller_kept meaning sizes budget before then_at cs given ran
 
 -- each call takes at most one from the room
 pub room_left : (meaning : Meaning) (sizes : MapSizes) (budget : ℕ) (before now : PassView) (calls : List Call)
     (answers : List Answer) → AnswersCalls meaning sizes budget before calls answers now → before.room ≤ now.room + length calls
 room_left meaning sizes budget before now calls answers none = omega arith
 room_left meaning sizes budget before now calls answers (more cs given then_at _ call answer ran made) =
-    omega (arith, made.grew.room, room_left meaning sizes budget before then_at cs given ran, length-append cs (call ∷ []))
+    omega (arith, made.told.grew.room, room_left meaning sizes budget before then_at cs given ran, length-append cs (call ∷ []))
 
 pub steps_grown : (meaning : Meaning) (sizes : MapSizes) (budget : ℕ) (before now : PassView) (calls : List Call)
     (answers : List Answer) → AnswersCalls meaning sizes budget before calls answers now → IsPrefix before.steps now.steps
 steps_grown meaning sizes budget before now calls answers none = IsPrefix-refl before.steps
 steps_grown meaning sizes budget before now calls answers (more cs given then_at _ call answer ran made) =
     IsPrefix-trans before.steps then_at.steps now.steps (steps_grown meaning sizes budget before then_at cs given ran)
-    made.grew.steps
+    made.told.grew.steps
 
 pub seen_grown : (meaning : Meaning) (sizes : MapSizes) (budget : ℕ) (before now : PassView) (calls : List Call)
     (answers : List Answer) → AnswersCalls meaning sizes budget before calls answers now → IsPrefix before.seen now.seen
 seen_grown meaning sizes budget before now calls answers none = IsPrefix-refl before.seen
 seen_grown meaning sizes budget before now calls answers (more cs given then_at _ call answer ran made) =
-    IsPrefix-trans before.seen then_at.seen now.seen (seen_grown meaning sizes budget before then_at cs given ran) made.grew.seen
+    IsPrefix-trans before.seen then_at.seen now.seen (seen_grown meaning sizes budget before then_at cs given ran) made.told.grew.seen
 
 said_calls-push : (calls : List Call) (answers : List Answer) (call : Call) (answer : Answer) → length answers ≡ length calls
     → said_calls (calls ++ call ∷ []) (answers ++ answer ∷ []) ≡ said_calls calls answers ++ said_calls (call ∷ []) (answer ∷ [])
@@ -80,7 +79,7 @@ pub mine_grown : (meaning : Meaning) (sizes : MapSizes) (budget : ℕ) (before n
 mine_grown meaning sizes budget before now calls answers none = sym (append-nil (map said_call before.mine))
 mine_grown meaning sizes budget before now calls answers (more cs given then_at _ call answer ran made) =
     let ih = mine_grown meaning sizes budget before then_at cs given ran in
-    let step = mine_step meaning sizes call then_at now answer made.says in
+    let step = mine_step meaning sizes call then_at now answer made.told.says in
     let pushed = said_calls-push cs given call answer (answers_each meaning sizes budget before then_at cs given ran) in
     let one = said_calls (call ∷ []) (answer ∷ []) in
     step ∙ (ap (λ xs. xs ++ one) ih ∙ (append_assoc (map said_call before.mine) (said_calls cs given) one
@@ -106,7 +105,7 @@ pub share_kept : (meaning : Meaning) (sizes : MapSizes) (budget : ℕ) (before n
     (answers : List Answer) → AnswersCalls meaning sizes budget before calls answers now → now.share ≡ before.share
 share_kept meaning sizes budget before now calls answers none = refl
 share_kept meaning sizes budget before now calls answers (more cs given then_at _ call answer ran made) =
-    made.grew.share ∙ share_kept meaning sizes budget before then_at cs given ran
+    made.told.grew.share ∙ share_kept meaning sizes budget before then_at cs given ran
 
 -- what is left of the share, with what the inserts may have spent, is the whole share
 pub free_left : (meaning : Meaning) (sizes : MapSizes) (budget : ℕ) (before now : PassView) (calls : List Call)
@@ -116,7 +115,7 @@ free_left meaning sizes budget before now calls answers none whole = omega (arit
 free_left meaning sizes budget before now calls answers (more cs given then_at _ call answer ran made) whole =
     let ih = free_left meaning sizes budget before then_at cs given ran whole in
     let share = share_kept meaning sizes budget before then_at cs given ran in
-    let step = free_step meaning sizes call then_at now (meaning.need * inserts cs) made.purse (omega (arith, ih, share)) in
+    let step = free_step meaning sizes call then_at now (meaning.need * inserts cs) made.told.purse (omega (arith, ih, share)) in
     let spent : meaning.need * inserts (cs ++ call ∷ []) ≡ meaning.need * inserts (call ∷ []) + meaning.need * inserts cs =
     ap (λ n. meaning.need * n) (inserts-push cs call) ∙ omega arith in
     omega (arith, step, share, spent)
@@ -133,7 +132,7 @@ never_full meaning sizes budget before now calls answers (more cs given then_at 
     (λ (old : slice_get given k ≡ Some a).
     never_full meaning sizes budget before then_at cs given ran whole (omega (arith, spent, enough)) k a old is)
     (λ (new : (k ≡ length given) × (a ≡ answer)).
-    last call answer made.says (omega (arith, spent, enough, free_left meaning sizes budget before then_at cs given ran whole))
+    last call answer made.told.says (omega (arith, spent, enough, free_left meaning sizes budget before then_at cs given ran whole))
     (sym new.1 ∙ is))
     (slice_get_push given answer k a at)
   where
@@ -146,19 +145,33 @@ never_full meaning sizes budget before now calls answers (more cs given then_at 
     last c (Said r) says free e = cc
     last c (Lost t) says free e = cc
 
-no_loss : (sizes : MapSizes) (call : Call) (budget : ℕ) (before now : PassView) (answer : Answer) (turns : ℕ)
-    → PlainCause sizes call budget before now answer → answer ≡ Lost turns → ⊥
-no_loss sizes call budget before now (Said r) turns cause e = cc
-no_loss sizes call budget before now Full turns cause e = cc
-no_loss sizes call budget before now (Lost t) turns cause e = cause.answers
+-- Calls of a pass that is alone on its map leave none of its removed pairs' records attached, where none was attached before.
+pub clean_after : (meaning : Meaning) (sizes : MapSizes) (budget : ℕ) (before now : PassView) (calls : List Call)
+    (answers : List Answer) → AnswersCalls meaning sizes budget before calls answers now → sizes.passes ≡ 1
+    → IsClean meaning sizes before → IsClean meaning sizes now
+clean_after meaning sizes budget before now calls answers none one clean = clean
+clean_after meaning sizes budget before now calls answers (more cs given then_at _ call answer ran made) one clean =
+    (made.alone one (clean_after meaning sizes budget before then_at cs given ran one clean)).clean
 
--- No call of the plain map is ever lost.
-pub plain_never_lost : (sizes : MapSizes) (budget : ℕ) (before now : PassView) (calls : List Call)
-    (answers : List Answer) → AnswersCalls plain_meaning sizes budget before calls answers now
-    → AtEach answers (λ k a. (turns : ℕ) → a ≡ Lost turns → ⊥)
-plain_never_lost sizes budget before now calls answers none k a at turns is = absurd cc
-plain_never_lost sizes budget before now calls answers (more cs given then_at _ call answer ran made) k a at turns is =
+-- a call none of whose turns was lost doesn't give up
+not_lost : (meaning : Meaning) (sizes : MapSizes) (call : Call) (budget : ℕ) (before now : PassView) (answer : Answer)
+    → AnswersCall meaning sizes call budget before now answer → 1 ≤ budget → Undisturbed meaning sizes call before now
+    → (turns : ℕ) → answer ≡ Lost turns → ⊥
+not_lost meaning sizes call budget before now (Said r) made some calm turns e = cc
+not_lost meaning sizes call budget before now Full made some calm turns e = cc
+not_lost meaning sizes call budget before now (Lost t) made some calm turns e =
+    let all = made.told.lost.0 in let counted = made.told.says.counted in let none = calm.lost in omega arith
+
+-- So none of its calls is ever lost.
+pub alone_never_lost : (meaning : Meaning) (sizes : MapSizes) (budget : ℕ) (before now : PassView) (calls : List Call)
+    (answers : List Answer) → AnswersCalls meaning sizes budget before calls answers now → sizes.passes ≡ 1
+    → IsClean meaning sizes before → 1 ≤ budget → AtEach answers (λ k a. (turns : ℕ) → a ≡ Lost turns → ⊥)
+alone_never_lost meaning sizes budget before now calls answers none one clean some k a at turns is = absurd cc
+alone_never_lost meaning sizes budget before now calls answers (more cs given then_at _ call answer ran made) one clean some k a at
+    turns is =
     ⊎_elim
-    (λ (old : slice_get given k ≡ Some a). plain_never_lost sizes budget before then_at cs given ran k a old turns is)
-    (λ (new : (k ≡ length given) × (a ≡ answer)). no_loss sizes call budget then_at now answer turns made.cause (sym new.1 ∙ is))
+    (λ (old : slice_get given k ≡ Some a). alone_never_lost meaning sizes budget before then_at cs given ran one clean some k a old turns
+    is)
+    (λ (new : (k ≡ length given) × (a ≡ answer)). not_lost meaning sizes call budget then_at now answer made some
+    (made.alone one (clean_after meaning sizes budget before then_at cs given ran one clean)) turns (sym new.1 ∙ is))
     (slice_get_push given answer k a at)

@@ -194,7 +194,8 @@ module _ (o : Object) where
     unchanged_here : (p : ℕ) → AtEach (all_calls_at o false p lists)
         (λ _ x. (o.reply (after o log p) x.call ≡ x.reply) × (o.next (after o log p) x.call ≡ after o log p))
     unchanged_here p = each_at_all
-        (λ x. (o.reply (after o log p) x.call ≡ x.reply) × (o.next (after o log p) x.call ≡ after o log p)) false p lists (λ k l at i s got here.
+        (λ x. (o.reply (after o log p) x.call ≡ x.reply) × (o.next (after o log p) x.call ≡ after o log p)) false p lists
+        (λ k l at i s got here.
         let parts = and_parts (not (o.changes (o.given s))) (eqb (o.place s) p) here in
         let none : o.changes (o.given s) ≡ false = not-true (o.changes (o.given s)) parts.0 in
         let place : o.place s ≡ p = eqb-true (o.place s) p parts.1 in

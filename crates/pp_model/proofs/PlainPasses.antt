@@ -18,7 +18,7 @@ use Rattle.pp_model.specs.FiniteMap.{find, KeysRise}
 use Rattle.pp_model.specs.Calls.{reply, map_after, changes, Takes, removes, cuts}
 use Rattle.pp_model.specs.History.{contents_of, Sound, change_of, FitsUnchanged, Stands}
 use Rattle.pp_model.specs.Pass.{PassView, MapSizes, CallerRun, steps_of}
-use Rattle.pp_model.specs.MapCalls.{Grew, AnswersCall, Learns, LeavesPurse, Tidied, IsClosing, AreNumbers}
+use Rattle.pp_model.specs.MapCalls.{Grew, Answered, AnswersCall, Learns, LeavesPurse, Tidied, IsClosing, AreNumbers}
 use Rattle.pp_model.specs.MapCalls.{caller_run, placed}
 use Rattle.pp_model.specs.Plain.{changes_from, log_of, plain_pass, PlainHolds, plain_meaning, plain_sizes, PlainAnswers, IsPlainAnswer}
 use Rattle.pp_model.specs.Plain.{plain_run, plain_note, PlainLearnable, PlainBelongs}
@@ -241,6 +241,7 @@ module _ (records calls : ℕ) (pairs : List Pair) (mine : List Placed) (holds :
         purse = plain_purse records calls call pairs mine mine';
         full = tt;
         stepped = omega arith;
+        counted = refl;
       }
 
 -- what a change leaves: an insert has one pair more, a remove one less
@@ -315,6 +316,7 @@ module _ (records calls : ℕ) (pairs : List Pair) (mine : List Placed) (holds :
         purse = change_purse records calls call r pairs pairs' mine mine' change;
         full = tt;
         stepped = omega arith;
+        counted = refl;
       }
 
 -- the same of a pass that counts its changes
@@ -342,11 +344,20 @@ module _ (records calls counted : ℕ) (pairs : List Pair) (mine : List Placed) 
 
 -- a pass that made a call is still that of the map
 pub plain_belongs : (records budget : ℕ) (sizes : MapSizes) (call : Call) (before now : PassView) (answer : Answer)
-    → PlainBelongs records before → AnswersCall plain_meaning sizes call budget before now answer → PlainBelongs records now
+    → PlainBelongs records before → Answered plain_meaning sizes call budget before now answer 0 → PlainBelongs records now
 plain_belongs records budget sizes call before now answer belongs made = record {
   share = made.grew.share ∙ belongs.share;
   caller = made.grew.caller ∙ belongs.caller;
   stands = made.stands;
+}
+
+-- The plain map loses no turn, and has no records.
+pub plain_answers : (sizes : MapSizes) (call : Call) (budget : ℕ) (before now : PassView) (answer : Answer)
+    → Answered plain_meaning sizes call budget before now answer 0 → AnswersCall plain_meaning sizes call budget before now answer
+plain_answers sizes call budget before now answer made = record {
+  turns = 0;
+  told = made;
+  alone = λ one clean. record { lost = refl; clean = tt };
 }
 
 -- An insert of an absent key into a full map changes nothing.
@@ -377,6 +388,7 @@ answers_full records calls pairs mine holds k v absent all budget left =
         free = full_prefix (upto (length pairs + 1) (records - length pairs)) _;
       };
       stepped = omega arith;
+      counted = refl;
     }
   where
     full_prefix : (free : List ℕ) (n : ℕ) → IsPrefix (take n free) free

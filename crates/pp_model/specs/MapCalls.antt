@@ -157,9 +157,9 @@ abbrev pub IsClean : Meaning → MapSizes → PassView → Type 0
 IsClean meaning sizes pass =
     meaning.Attached sizes (replayed (meaning.opening sizes) pass.order) (meaning.live (length (contents_of pass.seen)))
 
--- A call was made with this budget of lost turns, from its begin to this answer.
-pub record AnswersCall (meaning : Meaning) (sizes : MapSizes) (call : Call) (budget : ℕ) (before now : PassView)
-    (answer : Answer) : Type 0 where
+-- A call was made with this budget of lost turns, from its begin to this answer. By its steps it lost so many turns.
+pub record Answered (meaning : Meaning) (sizes : MapSizes) (call : Call) (budget : ℕ) (before now : PassView)
+    (answer : Answer) (turns : ℕ) : Type 0 where
   pub grew : Grew before now
   pub says : Says meaning sizes call before now answer
   pub stands : StandsIn now
@@ -168,6 +168,20 @@ pub record AnswersCall (meaning : Meaning) (sizes : MapSizes) (call : Call) (bud
   pub purse : LeavesPurse meaning sizes call before now
   pub full : LeavesFull meaning sizes before now answer
   pub stepped : meaning.turn_steps ≤ length (steps_since before now)
+  pub counted : meaning.lost sizes call (steps_since before now) ≡ turns
+
+-- No turn of a call was lost, and it left no record of a removed pair attached.
+pub record Undisturbed (meaning : Meaning) (sizes : MapSizes) (call : Call) (before now : PassView) : Type 0 where
+  pub lost : meaning.lost sizes call (steps_since before now) ≡ 0
+  pub clean : IsClean meaning sizes now
+
+-- A call was made, with so many lost turns. One of a pass that is alone on its map is not disturbed, where no record of a removed
+-- pair was attached as it began.
+pub record AnswersCall (meaning : Meaning) (sizes : MapSizes) (call : Call) (budget : ℕ) (before now : PassView)
+    (answer : Answer) : Type 0 where
+  pub turns : ℕ
+  pub told : Answered meaning sizes call budget before now answer turns
+  pub alone : sizes.passes ≡ 1 → IsClean meaning sizes before → Undisturbed meaning sizes call before now
 
 -- a call was begun
 pub record Begun (asked : Call) (races : ℕ) (going : GoingView) : Type 0 where

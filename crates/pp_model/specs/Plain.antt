@@ -12,7 +12,7 @@ use Rattle.pp_model.specs.FiniteMap.{KeysRise}
 use Rattle.pp_model.specs.Calls.{changes}
 use Rattle.pp_model.specs.History.{Sound, Stands, contents_of, change_of}
 use Rattle.pp_model.specs.Pass.{PassView, GoingView, NoteView, MapSizes, Meaning, RunView}
-use Rattle.pp_model.specs.MapCalls.{MayCall, AnswersCall, StandsIn}
+use Rattle.pp_model.specs.MapCalls.{MayCall, Answered, StandsIn}
 
 -- the changes of a list of placed calls, numbered from n on
 abbrev pub changes_from : ℕ → List Placed → List Change
@@ -88,7 +88,7 @@ plain_meaning = record {
 -- a call of the plain map was made, whatever its budget
 abbrev pub IsPlainAnswer : Call → PassView → PassView → Answer → Type 0
 IsPlainAnswer call before now answer =
-    (budget : ℕ) → 1 ≤ budget → AnswersCall plain_meaning (plain_sizes before.share) call budget before now answer
+    (budget : ℕ) → 1 ≤ budget → Answered plain_meaning (plain_sizes before.share) call budget before now answer 0
 
 -- a going call of the plain map: nothing happens before its one turn
 pub record PlainUnderWay (asked : Call) (races start : ℕ) (struck : Bool) (pass before : PassView) : Type 0 where

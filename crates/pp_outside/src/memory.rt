@@ -25,7 +25,13 @@ pub struct MemSource {
 impl Model for MemSource {
     ghost Value = { Memory };
 
-    ghost view = { λ s. record { bytes = drop s.at s.bytes.items; most = s.most; failing = s.failing.items; calls = s.reads; faults = s.faults } };
+    ghost view = { λ s. record {
+      bytes = drop s.at s.bytes.items;
+      most = s.most;
+      failing = s.failing.items;
+      calls = s.reads;
+      faults = s.faults;
+    } };
 
     ghost invariant = { λ s. (s.at ≤ length s.bytes.items) × (1 ≤ s.most) };
 }

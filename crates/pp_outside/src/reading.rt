@@ -29,7 +29,8 @@ const CHUNK: usize = 16_384;
 pub fn read_all<S: Source>(alloc: Global, source: &mut S, most: u32) -> Result<Vec<u8>, ReadFault>
     ensures all { IfOk result (λ v. WasAll (S.left source.old) (S.left source.new) v.items) }
     ensures most { IfOk result (λ v. length v.items ≤ most) }
-    ensures cause { IfErr result (λ e. ReadCause most (S.left source.old) (S.left source.new) (S.faults source.old) (S.faults source.new) e) }
+    ensures cause { IfErr result (λ e. ReadCause most (S.left source.old) (S.left source.new) (S.faults source.old) (S.faults source.new)
+        e) }
     ensures kept { IfOk result (λ v. S.faults source.new ≡ S.faults source.old) }
     ensures later { S.faults source.old ≤ S.faults source.new }
     ensures reads { ReadsTillFault S.Reads 64 source.old source.new result }

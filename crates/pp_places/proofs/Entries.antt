@@ -1,10 +1,10 @@
 -- A run's log, entered call by call.
-use Rattle.std.proofs.Common.{◌≡◌, ◌≢◌, ℕ, zero, suc, ◌+◌, ◌-◌, ◌^◌, ◌<◌, ◌≤◌, Bool, true, false, List, [], ◌∷◌, ◌++◌, length, map, drop}
-use Rattle.std.proofs.Common.{max, min, Some, ⊎_elim, ◌⊎◌, inl, inr, refl, sym, ap, ◌∙◌, subst, arith, get_or}
+use Rattle.std.proofs.Common.{◌≡◌, ℕ, zero, suc, ◌+◌, ◌-◌, ◌^◌, ◌<◌, ◌≤◌, Bool, true, false, List, [], ◌∷◌, length, map, drop}
+use Rattle.std.proofs.Common.{Some, ⊎_elim, ◌⊎◌, inl, inr, refl, sym, ap, ◌∙◌, subst, arith, get_or}
 use Rattle.std.specs.Prelude.{slice_get}
 use Rattle.std.proofs.lemmas.Bool.{cases_eq, cases_lt, true≢false}
 use Rattle.std.proofs.lemmas.List.{drop_more, length-drop}
-use Rattle.std.proofs.lemmas.Option.{slice_get_within, slice_get-get_or, get_or_from_slice_get}
+use Rattle.std.proofs.lemmas.Option.{slice_get_within, get_or_from_slice_get}
 use Rattle.pp_model.specs.declared.Call.{Call}
 use Rattle.pp_model.specs.declared.Reply.{Reply}
 use Rattle.pp_model.specs.declared.Answer.{Answer}
@@ -186,7 +186,8 @@ module _ (whole : List Change) (caller : ℕ) (mine : List Placed) (stands : Sta
       };
     }
 
-    fits_as_change : (b : Bool) → b ≡ true → FitsBy b whole caller (number + 1) next.first → FitsAsChange whole caller (number + 1) next.first
+    fits_as_change : (b : Bool) → b ≡ true → FitsBy b whole caller (number + 1) next.first
+        → FitsAsChange whole caller (number + 1) next.first
     fits_as_change true is fits = fits
     fits_as_change false is fits = absurd (true≢false (sym is))
 
@@ -215,7 +216,8 @@ module _ (whole : List Change) (caller : ℕ) (mine : List Placed) (stands : Sta
                 let logged : slice_get whole p ≡ Some (change_of caller (number + 1) next.first.call) =
                 ap (slice_get whole) same_p ∙ fits.logged in
                 let same_c : change_of caller (number + 1) next.first.call ≡ c = cc in
-                ap (slice_get log') (sym to_p) ∙ (is.here ∙ ap (λ (x : Call). Some (change_of caller (number + 1) x)) (sym next.placed.call_is)
+                ap (slice_get log') (sym to_p)
+                ∙ (is.here ∙ ap (λ (x : Call). Some (change_of caller (number + 1) x)) (sym next.placed.call_is)
                 ∙ ap (λ (x : Change). Some x) same_c))
                 (λ (there : p + 1 ≡ mark → ⊥).
                 is.others p c there
@@ -242,8 +244,8 @@ mapped_or [] at k j low = absurd (omega (arith, low))
 mapped_or (n ∷ ns) zero k j low = refl
 mapped_or (n ∷ ns) (suc at) k j low = mapped_or ns at k j (omega (arith, low))
 
-pub is_next : (log : List Change) (mine : List Placed) (calls : List Call) (answers : List Answer) (marks exact : List ℕ) (at : ℕ) (x : Call)
-    (a : Answer) (k : ℕ) → at < length calls → MarkedAs log calls answers exact mine → marks ≡ all_capped exact
+pub is_next : (log : List Change) (mine : List Placed) (calls : List Call) (answers : List Answer) (marks exact : List ℕ) (at : ℕ)
+    (x : Call) (a : Answer) (k : ℕ) → at < length calls → MarkedAs log calls answers exact mine → marks ≡ all_capped exact
     → IsNext calls answers marks exact at x a k
 is_next log mine calls answers marks exact at x a k low marked are =
     let l = marked_lengths log calls answers exact mine marked in

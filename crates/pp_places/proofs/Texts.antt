@@ -1,5 +1,5 @@
 -- Texts of lists that grow by an element.
-use Rattle.std.proofs.Common.{◌≡◌, ℕ, zero, suc, ◌+◌, ◌<◌, ◌≤◌, List, [], ◌∷◌, ◌++◌, length, map, take, get_or, refl, sym, ap, ◌∙◌, arith}
+use Rattle.std.proofs.Common.{◌≡◌, ℕ, zero, suc, ◌+◌, ◌<◌, List, [], ◌∷◌, ◌++◌, length, take, get_or, sym, ap, ◌∙◌, arith}
 use Rattle.std.proofs.Common.{append_assoc, append-nil}
 use Rattle.std.specs.List.{flat_map}
 use Rattle.pp_model.specs.declared.Placed.{Placed}
@@ -32,7 +32,8 @@ said_more c (mine ∷ lists) (suc k) x low =
     ap (λ j. said_text c (take j (mine ∷ lists))) next
     ∙ (ap (λ l. flat_map (said_line c) mine ++ l) (said_more (c + 1) lists k x (omega (arith, low))
     ∙ ap (λ j. said_text (c + 1) (take k lists) ++ flat_map (said_line j) (get_or lists k x)) same)
-    ∙ sym (append_assoc (flat_map (said_line c) mine) (said_text (c + 1) (take k lists)) (flat_map (said_line (c + suc k)) (get_or lists k x))))
+    ∙ sym (append_assoc (flat_map (said_line c) mine) (said_text (c + 1) (take k lists))
+    (flat_map (said_line (c + suc k)) (get_or lists k x))))
 
 pub listed : (lists : List (List Placed)) (k : ℕ) (x : List Placed) (old now next : List ℕ) → k < length lists
     → now ≡ old ++ said_text 0 (take k lists) → next ≡ now ++ flat_map (said_line k) (get_or lists k x)

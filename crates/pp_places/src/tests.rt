@@ -5,8 +5,8 @@ use pp_check::{Verdict, check};
 use pp_model::{Call, Change, Placed, Reply};
 use std::test::Fail;
 
-const TEXT: &[u8] =
-    b"certificate 1\nchange 1 1 insert 40 4\nchange 1 2 cut 40 4\nsaid 0 1 get 40 value 4\nsaid 1 1 insert 40 4 added\nsaid 1 2 cut 40 4 took 4\nend\n";
+const TEXT: &[u8] = b"certificate 1\nchange 1 1 insert 40 4\nchange 1 2 cut 40 4\n\
+    said 0 1 get 40 value 4\nsaid 1 1 insert 40 4 added\nsaid 1 2 cut 40 4 took 4\nend\n";
 
 // A get that was answered by a value that another caller took afterwards.
 #[test]

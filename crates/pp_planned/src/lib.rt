@@ -73,9 +73,11 @@ where
     ensures planned { IfOk result (λ planned. IsPlanned M.meaning (M.sizes chosen) races plan.items (views_of M.pass_view passes.items)
         (map (λ v. v.items) lists.items) (M.run_view planned.ran.closed.witness)) }
     ensures lists { IfOk result (λ planned. planned.lists.items ≡ lists.items) }
-    ensures marked { (1 ≤ M.meaning.turn_steps) ⊎ (length lists.items ≡ 1) → IfOk result (λ planned. IsMarked (map (λ v. v.items) lists.items)
+    ensures marked { (1 ≤ M.meaning.turn_steps) ⊎ (length lists.items ≡ 1) → IfOk result (λ planned.
+        IsMarked (map (λ v. v.items) lists.items)
         (map (λ v. v.items) planned.ran.answers.items) (map (λ v. v.items) planned.marks.items) (M.run_view planned.ran.closed.witness)) }
-    ensures contents { IfOk result (λ planned. planned.ran.closed.contents.items ≡ contents_of (M.run_view planned.ran.closed.witness).log) }
+    ensures contents { IfOk result (λ planned.
+        planned.ran.closed.contents.items ≡ contents_of (M.run_view planned.ran.closed.witness).log) }
     ensures few { IfOk result (λ planned. M.meaning.live (length planned.ran.closed.contents.items) ≤ (M.sizes chosen).records) }
     ensures cause { IfErr result (IsRunnersFault (X.faults runner.old) (X.faults runner.new)) }
     ensures kept { IfOk result (λ _. X.faults runner.new ≡ X.faults runner.old) }

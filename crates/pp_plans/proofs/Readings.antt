@@ -1,17 +1,14 @@
 -- What the lines of a plan say, one line after the other, and the plan that grows from them.
-use Rattle.std.proofs.Common.{◌≡◌, ℕ, zero, suc, ◌+◌, ◌-◌, ◌<◌, ◌≤◌, Bool, true, false, cond, nat_lt, List, [], ◌∷◌, ◌++◌}
+use Rattle.std.proofs.Common.{◌≡◌, ℕ, zero, suc, ◌+◌, ◌<◌, ◌≤◌, true, false, cond, nat_lt, List, [], ◌∷◌, ◌++◌}
 use Rattle.std.proofs.Common.{length, map, drop, replicate}
-use Rattle.std.proofs.Common.{Option, Some, None, option_and_then, refl, sym, ap, ◌∙◌, subst, arith, append_assoc, append-nil, ⊎_elim}
-use Rattle.std.specs.Prelude.{slice_get}
+use Rattle.std.proofs.Common.{Option, Some, None, option_and_then, refl, sym, ap, ◌∙◌, arith, append_assoc, append-nil, ⊎_elim}
 use Rattle.std.specs.List.{between}
-use Rattle.std.proofs.lemmas.Bool.{cases_lt, cases_Bool, true≢false}
+use Rattle.std.proofs.lemmas.Bool.{cases_lt, cases_Bool}
 use Rattle.std.proofs.lemmas.List.{drop_all}
-use Rattle.std.proofs.lemmas.Option.{slice_get_within}
 use Rattle.pp_model.specs.Lists.{AtEach}
-use Rattle.pp_model.proofs.Histories.{slice_get-append_left, slice_get-append_right}
 use Rattle.pp_trace.specs.declared.scanning.Span.{Span}
 use Rattle.pp_trace.specs.Grammar.{number_below, is_skipped}
-use Rattle.pp_trace.specs.Lines.{IsLineAt, lines_of, fields_of, number_of}
+use Rattle.pp_trace.specs.Lines.{IsLineAt, fields_of, number_of}
 use Rattle.pp_plans.specs.declared.parsing.Reading.{Reading}
 use Rattle.pp_plans.specs.declared.parsing.Reading.TheVariants.{Nothing, Gives, Bad}
 use Rattle.pp_plans.specs.Plans.{turns_in, given_by, given, reading, readings, turns_of, first_bad, bad_behind, IsPlan}

@@ -1,7 +1,7 @@
 -- Where nothing fails and nothing is wrong, a replay by a plan answers its lines.
-use Rattle.std.proofs.Common.{◌≡◌, ℕ, ◌≤◌, List, length, refl, sym, ap, ap₂, ◌∙◌, inl, inr, arith, subst}
+use Rattle.std.proofs.Common.{◌≡◌, ℕ, List, refl, sym, ap, ap₂, ◌∙◌, inl, inr, arith}
 use Rattle.std.specs.Prelude.{Option, Some, None}
-use Rattle.pp_outside.specs.Outside.{WasAll, GaveMore}
+use Rattle.pp_outside.specs.Outside.{GaveMore}
 use Rattle.pp_model.specs.declared.Answer.{Answer}
 use Rattle.pp_model.specs.Pass.{RunView}
 use Rattle.pp_trace.specs.declared.Why.{Why}
@@ -55,7 +55,8 @@ module _ (words : List (List ℕ)) (before after : World) (f g : ℕ) (answers :
       let told = good.trace (ap (λ s. s.make) (sym same) ∙ reads) in
       absurd (omega (arith, gave_part before.source.bytes after.source.bytes told.0 gave.bytes told.1 gave.consumed, gave.many, told.2))
 
-  pub complete : (w : PolledWay) → Cause w (asks_places words) (setting_words words) before after f g answers kept → IsAnswered (status_of w)
+  pub complete : (w : PolledWay) → Cause w (asks_places words) (setting_words words) before after f g answers kept
+      → IsAnswered (status_of w)
   complete (Ended way.Answered) cause = inl refl
   complete (Ended (way.Partly full lost)) cause = inr (inl refl)
   complete (Ended way.BadWords) cause = absurd (let said = good.said_by in let none = cause.0 in cc)

@@ -1,6 +1,7 @@
 -- What printing, and want of memory, make of a replay by a plan.
-use Rattle.std.proofs.Common.{◌≡◌, ℕ, ◌≤◌, ◌<◌, ◌⊎◌, inl, inr, ⊎_elim, Bool, true, false, List, [], length, refl, sym, ap, ◌∙◌, subst, arith}
-use Rattle.std.specs.Prelude.{Option, Some, None, slice_get}
+use Rattle.std.proofs.Common.{◌≡◌, ℕ, ◌≤◌, ◌<◌, ◌⊎◌, inl, inr, ⊎_elim, Bool, true, false, List, length}
+use Rattle.std.proofs.Common.{refl, sym, ap, ◌∙◌, subst, arith}
+use Rattle.std.specs.Prelude.{Option, Some, None}
 use Rattle.std.proofs.lemmas.List.{length-map}
 use Rattle.pp_model.specs.declared.Answer.{Answer}
 use Rattle.pp_model.specs.declared.Call.{Call}
@@ -16,7 +17,7 @@ use Rattle.pp_words.specs.declared.Kind.TheVariants as kind
 use Rattle.pp_words.specs.Words.{settings_of, InRange}
 use Rattle.pp_devices.specs.declared.ways.Way.{Way}
 use Rattle.pp_devices.specs.declared.ways.Way.TheVariants as way
-use Rattle.pp_devices.specs.Devices.{Device, World, world}
+use Rattle.pp_devices.specs.Devices.{Device, world}
 use Rattle.pp_running.specs.Jobs.{AreCalls}
 use Rattle.pp_running.specs.Run.{IsRunOf}
 use Rattle.pp_planned.specs.Planned.{IsPlanned}
@@ -26,7 +27,7 @@ use Rattle.pp_replay.specs.Parts.{IsFinished, WasSpared}
 use Rattle.pp_replay.proofs.Finishes.{no_memory}
 use Rattle.pp_replay.proofs.Unders.{chosen}
 use Rattle.pp_poll.specs.declared.ways.PolledWay.{PolledWay}
-use Rattle.pp_poll.specs.declared.ways.PolledWay.TheVariants.{Ended, BadPlan, NotRun}
+use Rattle.pp_poll.specs.declared.ways.PolledWay.TheVariants.{Ended, NotRun}
 use Rattle.pp_poll.specs.Certificates.{text_of, HasRanges, IsHeldWith}
 use Rattle.pp_poll.specs.Polled.{Cause, HasInput, IsPolled}
 use Rattle.pp_poll.specs.Parts.{IsChosenToPoll}
@@ -60,18 +61,18 @@ may_plan (Some make) callers before after lists plan input =
     subst (λ (xs : List ℕ). AtEach xs (λ k c. c < callers)) (sym input.unplanned) (λ k c at. absurd cc)
 
 -- want of memory once there was an input
-pub refused : (places : Bool) (words : List (List ℕ)) (settings : Settings) (lists : List (List Call)) (plan : List ℕ) (read now was : Device) (f g : ℕ)
-    (answers : List (List Answer)) (kept : Option RunView) (w : PolledWay) → settings_of words ≡ Some settings
-    → HasInput settings.make settings.callers read now lists plan → w ≡ Ended way.NoMemory
+pub refused : (places : Bool) (words : List (List ℕ)) (settings : Settings) (lists : List (List Call)) (plan : List ℕ)
+    (read now was : Device) (f g : ℕ) (answers : List (List Answer)) (kept : Option RunView) (w : PolledWay)
+    → settings_of words ≡ Some settings → HasInput settings.make settings.callers read now lists plan → w ≡ Ended way.NoMemory
     → Cause w places words (world read was) (world now was) f g answers kept
 refused places words settings lists plan read now was f g answers kept w said_by input is =
     rw is (no_memory words settings (world read was) (world now was) said_by refl
     (spared settings.make settings.callers read now lists plan input))
 
 -- a runner that failed
-pub not_run : (places : Bool) (words : List (List ℕ)) (settings : Settings) (lists : List (List Call)) (plan : List ℕ) (read now was : Device) (f g : ℕ)
-    (answers : List (List Answer)) (kept : Option RunView) (w : PolledWay) → settings_of words ≡ Some settings
-    → HasInput settings.make settings.callers read now lists plan → Rose f g → w ≡ NotRun
+pub not_run : (places : Bool) (words : List (List ℕ)) (settings : Settings) (lists : List (List Call)) (plan : List ℕ)
+    (read now was : Device) (f g : ℕ) (answers : List (List Answer)) (kept : Option RunView) (w : PolledWay)
+    → settings_of words ≡ Some settings → HasInput settings.make settings.callers read now lists plan → Rose f g → w ≡ NotRun
     → Cause w places words (world read was) (world now was) f g answers kept
 not_run places words settings lists plan read now was f g answers kept w said_by input rose is =
     rw is (record { settings = settings; said_by = said_by; lists = lists; plan = plan; input = input; rose = rose; quiet = refl })
@@ -98,7 +99,8 @@ module _ (places : Bool) (words : List (List ℕ)) (settings : Settings) (lists 
 
   -- a run whose text was printed in a way is the cause of a replay's ending in that way
   pub cause_of : (w : Way) → IsFinished w was after answers (text_of places settings.make answers run)
-      → ((w ≡ way.NoMemory → ⊥) → HasRanges places run) → Cause (Ended w) places words (world read was) (world now after) f g answers (Some run)
+      → ((w ≡ way.NoMemory → ⊥) → HasRanges places run)
+      → Cause (Ended w) places words (world read was) (world now after) f g answers (Some run)
   cause_of way.Answered is ranges =
       record { polled = polled (ranges (λ e. absurd cc)); written = is.0; unfailed = is.1; full_are = is.2; lost_are = is.3 }
   cause_of (way.Partly full lost) is ranges =

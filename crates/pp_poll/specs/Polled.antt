@@ -1,5 +1,5 @@
 -- What the ending of a replay by a plan means.
-use Rattle.std.specs.Prelude.{◌≡◌, ◌≢◌, ℕ, ◌+◌, ◌≤◌, ◌<◌, ◌⊎◌, Bool, List, [], length, Option, Some, None}
+use Rattle.std.specs.Prelude.{◌≡◌, ℕ, ◌+◌, ◌≤◌, ◌<◌, ◌⊎◌, Bool, List, [], length, Option, Some, None}
 use Rattle.std.specs.Io.KnownBytes.{Appends}
 use Rattle.pp_outside.specs.Outside.{Rose, WasAll, GrewByPrefix}
 use Rattle.pp_devices.specs.declared.ways.Way.TheVariants as way

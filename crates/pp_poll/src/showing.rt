@@ -3,6 +3,7 @@
 ghost use Rattle.std.specs.Prelude.{◌≡◌, ◌<◌, ℕ, List, map, length, [], None, Some};
 ghost use Rattle.pp_devices.specs.Devices.{Device, device, world};
 ghost use Rattle.pp_model.specs.Lists.{AtEach};
+ghost use Rattle.pp_model.specs.MapCalls.{IsClean};
 ghost use Rattle.pp_replay.specs.Replay.{share_of, sizes_of};
 ghost use Rattle.pp_replay.specs.View.{shown_run};
 ghost use Rattle.pp_running.specs.Jobs.{AreCalls, HaveRoom, views_of};
@@ -57,6 +58,7 @@ where
     requires count { length passes.items ≡ settings.callers }
     requires passes { AtEach passes.items (λ c pass. M.Belongs chosen pass × M.Idle pass × IsOpened c (M.pass_view pass)) }
     requires shares { AtEach passes.items (λ c pass. (M.pass_view pass).share ≡ share_of settings.map (sizes_of settings) c) }
+    requires clean { AtEach passes.items (λ c pass. IsClean M.meaning (M.sizes chosen) (M.pass_view pass)) }
     requires room { HaveRoom (views_of M.pass_view passes.items) (map (λ v. v.items) input.lists.items) }
     ensures { (words : List (List ℕ)) → (before : Device) → (after : Device) → settings_of words ≡ Some settings
         → HasInput settings.make settings.callers before after (map (λ v. v.items) input.lists.items) input.plan.items

@@ -95,7 +95,8 @@ module _ {W : Type 0} (sentinels : ℕ) (own : W) (z : Sizes) (c : ℕ) where
 module _ {E A W : Type 0} where
   -- what a pass has beside its seat agrees with what the seat knows
   pub beside_dealt : (sentinels sides : ℕ) (own : W) (z : Sizes) (c number share : ℕ) (walk : List ℕ) (p : Purse)
-      (s : Seat Unit (SeatView E A W)) → s.me ≡ (alone [] (dealt sentinels own z c), []) → IsWithin z → sentinels ≤ z.records → c < z.passes → number ≡ c
+      (s : Seat Unit (SeatView E A W)) → s.me ≡ (alone [] (dealt sentinels own z c), []) → IsWithin z → sentinels ≤ z.records → c < z.passes
+      → number ≡ c
       → share ≡ share_of sentinels z c → walk ≡ replicate 5 0 → IsNewPurse z (start_of sentinels z c) (share_of sentinels z c) p
       → Keeping sentinels sides s number share walk p
   unfolding dealt

@@ -1,13 +1,12 @@
 -- What a pass keeps and learns where it makes a note, and where it learns one.
-use Rattle.std.proofs.Common.{◌≡◌, ℕ, ◌≤◌, List, [], ◌∷◌, ◌++◌, sym, ap, ◌∙◌, subst}
+use Rattle.std.proofs.Common.{◌≡◌, ℕ, ◌≤◌, List, [], sym, ap, ◌∙◌, subst}
 use Rattle.atomic_table.specs.Table.{Me}
 use Rattle.atomic_table.specs.declared.shared.Seat.{Seat}
 use Rattle.pp_rule.specs.Lists.{IsIn, BeginsWith}
-use Rattle.pp_rule.specs.declared.views.LoggedStep.{LoggedStep}
 use Rattle.pp_rule.specs.declared.views.PassState.{PassState}
 use Rattle.pp_rule.specs.declared.views.SeatView.{SeatView}
 use Rattle.pp_rule.specs.Steps.{alone, order_of, IsAlone, meeting_part, seeing, Learnt}
-use Rattle.pp_rule.proofs.Put.{in_first, in_right, in_nil}
+use Rattle.pp_rule.proofs.Put.{in_first, in_nil}
 use Rattle.pp_rule.proofs.Histories.{log_begins, placed_kept}
 use Rattle.pp_base.specs.declared.purse.Purse.{Purse}
 use Rattle.pp_base.specs.Passes.{known, view, IsPassOf, Keeping}

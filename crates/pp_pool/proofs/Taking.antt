@@ -74,7 +74,8 @@ module _ {E A W : Type 0} (sentinels sides : ℕ) (s : Seat Unit (SeatView E A W
   -- a pass owns no more records than there are
   owned_fit : length (known s).owned ≤ (known s).sizes.records
   owned_fit = let fit = k.pass.fit in let count = length-map (known s).owned number_of in
-      let all : length (numbers_of (known s)) ≡ length (owned_numbers (known s)) + length ((known s).retired ++ members_of (known s).chains) =
+      let all : length (numbers_of (known s)) ≡ length (owned_numbers (known s)) + length ((known s).retired ++ members_of
+      (known s).chains) =
       length-append (owned_numbers (known s)) ((known s).retired ++ members_of (known s).chains) in omega arith
 
   -- where a record is private, the free list is shorter than what is owned

@@ -7,7 +7,6 @@ use Rattle.pp_link.specs.declared.layout.Sizes.{Sizes}
 use Rattle.pp_link.specs.Places.{frontier_place, walk_place}
 use Rattle.pp_model.specs.declared.steps.Step.{Step}
 use Rattle.pp_rule.specs.declared.views.PassState.{PassState}
-use Rattle.pp_rule.specs.declared.views.PrivateRecord.{PrivateRecord}
 use Rattle.pp_rule.specs.declared.views.SeatView.{SeatView}
 use Rattle.pp_rule.specs.Causes.{FoundTaken, IsReclaim, owned_after}
 use Rattle.pp_rule.specs.Lists.{IsIn, BeginsWith}
@@ -16,8 +15,7 @@ use Rattle.pp_rule.proofs.Put.{in_right}
 use Rattle.pp_base.specs.declared.purse.Purse.{Purse}
 use Rattle.pp_base.specs.Named.{NamedStep, name_of, in_turn, scans_frontier, scans_walk}
 use Rattle.pp_base.specs.Passes.{known, view}
-use Rattle.pp_calls.proofs.Growing.{stepped_made}
-use Rattle.pp_reclaim.specs.Sweeps.{scan_steps, Swept, Reclaims}
+use Rattle.pp_reclaim.specs.Sweeps.{scan_steps, Reclaims}
 use Rattle.pp_shelf.specs.Runs.{MadeAtShelves, FoundEmpty, map_sizes, steps_made}
 use Rattle.pp_shelf.specs.Shelves.{MovesFree}
 use Rattle.pp_purse.specs.Steps.{PurseSteps}
@@ -137,15 +135,18 @@ module _ {E A W : Type 0} (sides : ℕ) (z : Sizes) (many need : ℕ) (s t : Sea
       let taken_q : q.taken ≡ 0 = ap (λ x. x.taken) only.lists ∙ taken_r in
       let steps_are : steps_made (view s) w
       ≡ (steps_made (view s) (view c.between) ++ steps_made (view c.between) (view t)) ++ steps_made (view t) w =
-      since_both (f.0 ++ scan_list) m.steps (view s) (view t) w (purse_both z f.0 scan_list (view s) (view c.between) (view t) f.1 sweep).made
+      since_both (f.0 ++ scan_list) m.steps (view s) (view t) w (purse_both z f.0 scan_list (view s) (view c.between) (view t) f.1
+      sweep).made
       m.made ∙ ap (λ (l : List Step). l ++ steps_made (view t) w) (since_both f.0 scan_list (view s) (view c.between) (view t) f.1.made
       sweep.made) in
       let names = since_named scan_list (view c.between) (view t) sweep.made in
-      let is_reclaim : IsReclaim (map_sizes z) (steps_made (view c.between) (view t)) = reclaim_is (map_sizes z) c.swept.fronts c.swept.walks
+      let is_reclaim : IsReclaim (map_sizes z) (steps_made (view c.between) (view t)) = reclaim_is (map_sizes z) c.swept.fronts
+      c.swept.walks
       (steps_made (view c.between) (view t)) c.swept.all_fronts c.swept.all_walks names in
       let some_made : 0 < length (steps_made (view c.between) (view t)) =
       let count = sym (length-map (steps_made (view c.between) (view t)) name_of) ∙ (ap (λ (l : List NamedStep). length l) names
-      ∙ length-append (in_turn scans_frontier (frontier_place z 0 0) c.swept.fronts) (in_turn scans_walk (walk_place z 0 0) c.swept.walks)) in
+      ∙ length-append (in_turn scans_frontier (frontier_place z 0 0) c.swept.fronts) (in_turn scans_walk (walk_place z 0 0) c.swept.walks))
+      in
       let fronts = turn_long scans_frontier (frontier_place z 0 0) c.swept.fronts in
       let walks = turn_long scans_walk (walk_place z 0 0) c.swept.walks in
       let all_fronts = c.swept.all_fronts in let all_walks = c.swept.all_walks in omega arith in

@@ -21,7 +21,8 @@ turn_long load place (word ∷ words) = ap suc (turn_long load (place + 1) words
 
 -- each of the loads that were made in turn is of this kind, and on its place
 each_in_turn : (kind : ℕ) (load : ℕ → ℕ → NamedStep) → IsLoad kind load → (place : ℕ) (words : List ℕ) (steps : List Step)
-    → map name_of steps ≡ in_turn load place words → (i : ℕ) (s : Step) → slice_get steps i ≡ Some s → (s.kind ≡ kind) × (s.place ≡ place + i)
+    → map name_of steps ≡ in_turn load place words → (i : ℕ) (s : Step) → slice_get steps i ≡ Some s → (s.kind ≡ kind)
+    × (s.place ≡ place + i)
 each_in_turn kind load l place words [] e i s at = absurd cc
 each_in_turn kind load l place [] (t ∷ steps) e i s at = absurd cc
 each_in_turn kind load l place (word ∷ words) (t ∷ steps) e zero s at =
@@ -66,12 +67,14 @@ reclaim_is z fronts walks scan all_fronts all_walks e =
       walks = r.1.0;
       is = r.1.1.0;
       frontier = record {
-        count_is = sym (length-map r.0 name_of) ∙ (ap (λ (l : List NamedStep). length l) r.1.1.1 ∙ (turn_long scans_frontier f fronts ∙ all_fronts));
+        count_is = sym (length-map r.0 name_of) ∙ (ap (λ (l : List NamedStep). length l) r.1.1.1 ∙ (turn_long scans_frontier f fronts
+            ∙ all_fronts));
         each = λ i s at. let y = each_in_turn scan_frontier_step scans_frontier frontiers f fronts r.0 r.1.1.1 i s at in
             let there = y.1 in (y.0, omega arith);
       };
       walk = record {
-        count_is = sym (length-map r.1.0 name_of) ∙ (ap (λ (l : List NamedStep). length l) r.1.1.2 ∙ (turn_long scans_walk w walks ∙ all_walks));
+        count_is = sym (length-map r.1.0 name_of) ∙ (ap (λ (l : List NamedStep). length l) r.1.1.2 ∙ (turn_long scans_walk w walks
+            ∙ all_walks));
         each = λ i s at. let y = each_in_turn scan_walk_step scans_walk walks_loads w walks r.1.0 r.1.1.2 i s at in
             let there = y.1 in (y.0, omega arith);
       };

@@ -1,31 +1,31 @@
 -- The stretches of steps that a call makes at its purse, one after another.
-use Rattle.std.proofs.Common.{◌≡◌, ◌≢◌, ◌⊎◌, ℕ, zero, suc, ◌+◌, ◌*◌, ◌<◌, ◌≤◌, Bool, true, false, ◌||◌, ◌&&◌, List, [], ◌∷◌, ◌++◌}
+use Rattle.std.proofs.Common.{◌≡◌, ℕ, zero, suc, ◌+◌, ◌*◌, ◌<◌, true, List, [], ◌∷◌, ◌++◌}
 use Rattle.std.proofs.Common.{map, length}
-use Rattle.std.proofs.Common.{refl, sym, ap, ◌∙◌, subst, ⊎_elim, append_assoc, lt-ltb, arith}
-use Rattle.std.specs.Prelude.{drop, nat_lt}
+use Rattle.std.proofs.Common.{refl, sym, ap, ◌∙◌, subst, ⊎_elim, lt-ltb, arith}
+use Rattle.std.specs.Prelude.{drop}
 use Rattle.std.proofs.Math.Seq.{drop-append_seam}
 use Rattle.atomic_table.specs.declared.shared.Seat.{Seat}
 use Rattle.pp_link.specs.declared.layout.Sizes.{Sizes}
-use Rattle.pp_link.specs.Places.{shelf_place, frontier_place, walk_place}
+use Rattle.pp_link.specs.Places.{frontier_place, walk_place}
 use Rattle.pp_model.specs.declared.steps.Step.{Step}
 use Rattle.pp_rule.specs.declared.views.Chain.{Chain}
 use Rattle.pp_rule.specs.declared.views.PassState.{PassState}
 use Rattle.pp_rule.specs.Paths.{links_of}
 use Rattle.pp_rule.specs.declared.views.SeatView.{SeatView}
 use Rattle.pp_rule.specs.Causes.{owned_after}
-use Rattle.pp_rule.specs.Lists.{IsIn, BeginsWith}
+use Rattle.pp_rule.specs.Lists.{IsIn}
 use Rattle.pp_rule.specs.Orders.{made_by, missed_step, shelve_step, unshelve_step}
 use Rattle.pp_rule.proofs.Made.{known_after}
 use Rattle.pp_rule.proofs.Put.{in_nil, in_cases, in_either, in_one}
 use Rattle.pp_base.specs.declared.purse.Purse.{Purse}
 use Rattle.pp_base.specs.Chains.{chain_at}
 use Rattle.pp_base.specs.Named.{NamedStep, name_of, in_turn, scans_frontier, scans_walk, retires, Made}
-use Rattle.pp_base.specs.Passes.{known, view}
+use Rattle.pp_base.specs.Passes.{view}
 use Rattle.pp_base.proofs.Named.{made_append}
 use Rattle.pp_calls.specs.Steps.{Stepped}
 use Rattle.pp_calls.proofs.Growing.{stepped_none, stepped_one, stepped_both, stepped_made, named_made}
-use Rattle.pp_unlink.specs.Invalidation.{invalidations, Flushed, SameFree}
-use Rattle.pp_reclaim.specs.Sweeps.{scan_steps, Swept, Reclaims}
+use Rattle.pp_unlink.specs.Invalidation.{invalidations, Flushed}
+use Rattle.pp_reclaim.specs.Sweeps.{scan_steps, Swept}
 use Rattle.pp_shelf.specs.Runs.{IsShelfStep, MadeAtShelves, steps_made}
 use Rattle.pp_shelf.specs.Shelves.{MovesFree}
 use Rattle.pp_purse.specs.Steps.{is_purse_step, PurseSteps}
@@ -108,7 +108,8 @@ kind_taken z s is = ap (λ (k : ℕ). is_purse_step z (record { kind = k; place 
 shelf_good : (z : Sizes) (s : NamedStep) → IsShelfStep z s → is_purse_step z s ≡ true
 shelf_good z s is = let place = is.place in let low = is.low in
     let before : s.place < 1 + 17 * z.passes = omega arith in
-    ⊎_elim (λ missed. missed_good z s.kind s.place missed before) (λ other. ⊎_elim (λ put. kind_good z s put) (λ taken. kind_taken z s taken) other)
+    ⊎_elim (λ missed. missed_good z s.kind s.place missed before) (λ other. ⊎_elim (λ put. kind_good z s put)
+    (λ taken. kind_taken z s taken) other)
     is.kind
 
 module _ {E A W : Type 0} where

@@ -1,40 +1,32 @@
 -- The clauses of a whole call on a queue.
-use Rattle.std.proofs.Common.{◌≡◌, ◌≢◌, ⊎_elim, ◌⊎◌, inl, inr, ℕ, zero, suc, ◌+◌, ◌*◌, ◌<◌, ◌≤◌, min, Bool, true, false}
-use Rattle.std.proofs.Common.{List, [], ◌∷◌, ◌++◌, length, map}
-use Rattle.std.proofs.Common.{length-append, refl, sym, ap, ◌∙◌, subst, arith, Option, Some, None, Result, Ok, Err}
+use Rattle.std.proofs.Common.{◌≡◌, ⊎_elim, ◌⊎◌, inl, inr, ℕ, ◌+◌, ◌*◌, ◌<◌, ◌≤◌, min, true}
+use Rattle.std.proofs.Common.{List, [], ◌∷◌, ◌++◌, length}
+use Rattle.std.proofs.Common.{length-append, refl, sym, ap, ◌∙◌, subst, arith}
 use Rattle.std.specs.Prelude.{drop}
 use Rattle.std.proofs.Math.Seq.{drop-append_seam}
 use Rattle.std.proofs.Math.Bool.{false≢true}
 use Rattle.pp_link.specs.declared.layout.Sizes.{Sizes}
-use Rattle.pp_model.specs.declared.Lost.{Lost}
 use Rattle.pp_model.specs.declared.steps.Step.{Step}
 use Rattle.pp_model.specs.Pass.{seen_first, seen_last}
-use Rattle.pp_rule.specs.Causes.{FoundNone, FoundTaken, lost_from, early_from}
+use Rattle.pp_rule.specs.Causes.{FoundTaken}
 use Rattle.pp_rule.specs.Lists.{IsIn, BeginsWith}
 use Rattle.pp_rule.specs.Orders.{log_of, made_by, placed_by, entries_of}
 use Rattle.pp_rule.proofs.Histories.{log_begins, entries_append}
-use Rattle.pp_base.specs.declared.purse.Purse.{Purse}
-use Rattle.pp_calls.specs.Steps.{Stepped}
 use Rattle.pp_shelf.specs.Runs.{steps_made}
-use Rattle.pp_queues.specs.declared.calls.QueueAnswer.{QueueAnswer}
-use Rattle.pp_queues.specs.declared.calls.QueueAnswer.TheVariants as answer
 use Rattle.pp_queues.specs.declared.calls.QueueCall.{QueueCall}
-use Rattle.pp_queues.specs.declared.calls.QueueCall.TheVariants as call
 use Rattle.pp_queues.specs.declared.calls.QueueReply.{QueueReply}
-use Rattle.pp_queues.specs.declared.calls.QueueReply.TheVariants as said
 use Rattle.pp_queues.specs.declared.calls.QueueChange.{QueueChange}
 use Rattle.pp_queues.specs.declared.calls.QueuePlaced.{QueuePlaced}
 use Rattle.pp_model.specs.Objects.{after}
-use Rattle.pp_queues.specs.Queue.{queue, reply, changes, placed}
-use Rattle.pp_queues.specs.Queues.{QueuePass, QueueView, HasOwn}
+use Rattle.pp_queues.specs.Queue.{queue, changes, placed}
+use Rattle.pp_queues.specs.Queues.{QueueView, HasOwn}
 use Rattle.pp_queues.specs.Turns.{StandsThen}
-use Rattle.pp_queues.specs.Losses.{queue_reader, Tally, losing, Ran}
+use Rattle.pp_queues.specs.Losses.{Tally, losing, Ran}
 use Rattle.pp_queues.specs.Calls.{QueuePassView, queue_view, steps_since, start_of, map_sizes, lost_turns, early_losses}
 use Rattle.pp_queues.specs.Calls.{Grew, Stands, PlacesReply}
 use Rattle.pp_queues.specs.Calls.{Tidied, spends}
 use Rattle.pp_queues.proofs.Counting.{tally_lost, tally_early}
 use Rattle.pp_model.proofs.Logs.{after_grown}
-use Rattle.pp_queue.specs.Answers.{Tidies}
 use Rattle.pp_queue.proofs.Reclaiming.{since_made}
 
 -- how much the first of some steps saw

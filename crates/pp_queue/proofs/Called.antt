@@ -1,26 +1,25 @@
 -- Whole calls on a queue meet their clauses.
-use Rattle.std.proofs.Common.{◌≡◌, ◌≢◌, ⊎_elim, ◌⊎◌, inl, inr, ℕ, zero, suc, ◌+◌, ◌*◌, ◌<◌, ◌≤◌, min, Bool, true, false}
+use Rattle.std.proofs.Common.{◌≡◌, ⊎_elim, ◌⊎◌, inl, inr, ℕ, zero, suc, ◌+◌, ◌<◌, ◌≤◌, min, Bool, true, false}
 use Rattle.std.proofs.Common.{List, [], ◌∷◌, ◌++◌, length, map}
 use Rattle.std.proofs.Common.{length-append, get_or, refl, sym, ap, ◌∙◌, subst, arith, Option, Some, None, Result, Ok, Err}
 use Rattle.std.specs.Prelude.{replicate}
 use Rattle.atomic_table.specs.declared.shared.Seat.{Seat}
 use Rattle.std.proofs.Math.Bool.{false≢true}
 use Rattle.pp_link.specs.declared.layout.Sizes.{Sizes}
-use Rattle.pp_model.specs.declared.InsertFault.{InsertFault}
 use Rattle.pp_model.specs.declared.InsertFault.TheVariants as fault
 use Rattle.pp_model.specs.declared.Lost.{Lost}
 use Rattle.pp_model.specs.declared.steps.Step.{Step}
 use Rattle.pp_model.specs.Pass.{seen_first}
 use Rattle.pp_rule.specs.Causes.{FoundNone, FoundTaken}
 use Rattle.pp_rule.specs.declared.views.WalkSlot.{WalkSlot}
-use Rattle.pp_rule.specs.Lists.{IsIn, BeginsWith}
-use Rattle.pp_rule.specs.Orders.{log_of, made_by, placed_by}
+use Rattle.pp_rule.specs.Lists.{BeginsWith}
+use Rattle.pp_rule.specs.Orders.{placed_by}
 use Rattle.pp_rule.specs.Steps.{IsAlone}
 use Rattle.pp_rule.specs.Views.{slot, blank}
 use Rattle.pp_base.proofs.Steady.{named_at}
 use Rattle.pp_base.specs.declared.purse.Purse.{Purse}
 use Rattle.pp_base.specs.Made.{HasRun}
-use Rattle.pp_base.specs.Passes.{known, view, named_of, IsPassOf, IsSame}
+use Rattle.pp_base.specs.Passes.{view, named_of, IsPassOf, IsSame}
 use Rattle.pp_calls.proofs.Growing.{stepped_both}
 use Rattle.pp_shelf.specs.Runs.{steps_made}
 use Rattle.pp_unlink.specs.Invalidation.{SameFree}
@@ -28,15 +27,14 @@ use Rattle.pp_queues.specs.declared.calls.QueueCall.{QueueCall}
 use Rattle.pp_queues.specs.declared.calls.QueueCall.TheVariants as call
 use Rattle.pp_queues.specs.declared.calls.QueueReply.TheVariants as said
 use Rattle.pp_queues.specs.declared.calls.QueuePlaced.{QueuePlaced}
-use Rattle.pp_model.specs.Objects.{after}
 use Rattle.pp_queues.specs.Contents.{queue_caller}
-use Rattle.pp_queues.specs.Queue.{queue, reply, placed}
+use Rattle.pp_queues.specs.Queue.{reply, placed}
 use Rattle.pp_queues.specs.Queues.{QueuePass, QueueView, HasOwn, Queues, queue_head, queue_field}
 use Rattle.pp_queues.specs.Turns.{StandsThen}
 use Rattle.pp_queues.specs.Losses.{Tally, losing, striking, Ran}
 use Rattle.pp_queues.specs.Calls.{queue_view, map_sizes, TriedToMove, AnswersQueue, put_answer, take_answer}
 use Rattle.pp_queues.proofs.Counting.{ran_both}
-use Rattle.pp_queue.specs.Calling.{IsEmpty, EmptyFrom, TookOff}
+use Rattle.pp_queue.specs.Calling.{EmptyFrom}
 use Rattle.pp_queue.specs.Answers.{Idles, RanOut, Tidies, TakeSays, TookNone, TookValue, PutDone, GaveUp}
 use Rattle.pp_queue.proofs.Answering.{since, since_is, grew, stand, lost_is, early_is, start_is, stepped, mine_same}
 use Rattle.pp_queue.proofs.Answering.{places_change, tidies, right_on, log_long}

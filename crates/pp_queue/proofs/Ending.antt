@@ -1,7 +1,7 @@
 -- A closed pool of a queue shows what a closed queue does.
-use Rattle.std.proofs.Common.{◌≡◌, ⊎_elim, ◌⊎◌, inl, inr, ℕ, zero, suc, ◌+◌, ◌<◌, ◌≤◌, Bool, true, false, cond, eqb, List}
-use Rattle.std.proofs.Common.{[], ◌∷◌, ◌++◌, map, length, Some, None, Option}
-use Rattle.std.proofs.Common.{length-append, append-nil, refl, sym, ap, ◌∙◌, subst, arith}
+use Rattle.std.proofs.Common.{◌≡◌, ⊎_elim, ◌⊎◌, inl, inr, ℕ, zero, suc, ◌+◌, ◌<◌, ◌≤◌, List}
+use Rattle.std.proofs.Common.{[], ◌∷◌, map, length, Some}
+use Rattle.std.proofs.Common.{refl, sym, ap, ◌∙◌, subst, arith}
 use Rattle.std.specs.Prelude.{slice_get}
 use Rattle.std.proofs.lemmas.Bool.{cases_lt}
 use Rattle.std.proofs.lemmas.List.{length-map}
@@ -13,9 +13,9 @@ use Rattle.pp_link.specs.Places.{IsNumber}
 use Rattle.pp_model.specs.declared.Pair.{Pair}
 use Rattle.pp_model.specs.declared.steps.OrderEntry.{OrderEntry}
 use Rattle.pp_rule.specs.Closing.{spare}
-use Rattle.pp_rule.specs.Lists.{IsIn, BeginsWith, times}
+use Rattle.pp_rule.specs.Lists.{IsIn, times}
 use Rattle.pp_rule.specs.Opening.{opening_words}
-use Rattle.pp_rule.specs.Orders.{log_of, made_by, placed_by, entries_of, replayed}
+use Rattle.pp_rule.specs.Orders.{log_of, made_by, placed_by, entries_of}
 use Rattle.pp_rule.proofs.Counting.{spare_none, spare_free, times_inside, times_nil}
 use Rattle.pp_rule.proofs.Histories.{log_begins, entries_append, placed_kept}
 use Rattle.pp_rule.proofs.Put.{in_nil, in_first, in_later, in_cases}
@@ -28,8 +28,7 @@ use Rattle.pp_queues.specs.Calls.{QueuePassView, queue_view}
 use Rattle.pp_queues.specs.Contents.{QueueGathered, QueueTells, QueueTellsPass, queue_count, queue_caller, numbered}
 use Rattle.pp_queues.specs.Queue.{items_of, StandsIn}
 use Rattle.pp_queues.specs.Queues.{QueuePass, QueueStep, QueueView, queue_head, queue_field}
-use Rattle.pp_queues.proofs.Closing.{numbered_long}
-use Rattle.pp_queue.specs.Closings.{IsClosing, IsClosedPass, SawAll, caller_in, caller_run, queue_run}
+use Rattle.pp_queue.specs.Closings.{IsClosing, IsClosedPass, caller_in, caller_run, queue_run}
 
 -- the values of numbered ones
 values_numbered : (k : ℕ) (vs : List ℕ) → map (λ (p : Pair). p.value) (numbered k vs) ≡ vs

@@ -1,5 +1,5 @@
 -- The words that are stored in a private record.
-use Rattle.std.proofs.Common.{◌≡◌, ◌≢◌, ℕ, zero, suc, ◌+◌, ◌*◌, ◌/◌, ◌%◌, ◌^◌, ◌<◌, ◌≤◌, true, List, [], ◌∷◌, map, length}
+use Rattle.std.proofs.Common.{◌≡◌, ◌≢◌, ℕ, zero, suc, ◌/◌, ◌%◌, ◌^◌, List, [], ◌∷◌}
 use Rattle.std.proofs.Common.{set, refl, sym, ap, ap₂, ◌∙◌, subst, arith}
 use Rattle.std.proofs.Math.Decide.{ℕ_discrete}
 use mathlib.Core.Logic.{dite}
@@ -13,10 +13,8 @@ use Rattle.pp_rule.specs.Views.{halves, value_of}
 use Rattle.pp_rule.proofs.Made.{known_after}
 use Rattle.pp_base.specs.declared.purse.Purse.{Purse}
 use Rattle.pp_base.specs.Private.{WroteField}
-use Rattle.pp_base.specs.Passes.{owned_numbers}
 use Rattle.pp_pool.specs.Taken.{IsPrivate}
 use Rattle.pp_queues.specs.Queues.{QueuePass, QueueView}
-use Rattle.pp_queue.specs.Steps.{value_in}
 use Rattle.pp_queue.specs.Calling.{HasRecord, SameLists}
 use Rattle.pp_queue.proofs.Putting.{same_record}
 use Rattle.pp_queue.proofs.Idling.{idles_one, idles_both}

@@ -1,15 +1,13 @@
 -- The end of a call on a queue.
-use Rattle.std.proofs.Common.{◌≡◌, ⊎_elim, ◌⊎◌, inl, inr, ℕ, ◌+◌, ◌*◌, ◌<◌, ◌≤◌, min, List, [], ◌++◌, length, length-append}
-use Rattle.std.proofs.Common.{refl, sym, ap, ◌∙◌, subst, arith, append-nil}
-use Rattle.atomic_table.specs.declared.shared.Seat.{Seat}
+use Rattle.std.proofs.Common.{◌≡◌, ⊎_elim, ◌⊎◌, inl, inr, ℕ, ◌*◌, ◌≤◌, min, List, ◌++◌, length, length-append}
+use Rattle.std.proofs.Common.{sym, ap, ◌∙◌, subst, arith}
 use Rattle.pp_link.specs.declared.layout.Sizes.{Sizes}
 use Rattle.pp_model.specs.declared.steps.Step.{Step}
 use Rattle.pp_model.specs.Pass.{MapSizes}
 use Rattle.pp_rule.specs.Causes.{FoundTaken}
-use Rattle.pp_rule.specs.Lists.{IsIn, BeginsWith}
-use Rattle.pp_rule.proofs.Put.{in_left, in_right}
+use Rattle.pp_rule.specs.Lists.{BeginsWith}
+use Rattle.pp_rule.proofs.Put.{in_right}
 use Rattle.pp_base.specs.declared.purse.Purse.{Purse}
-use Rattle.pp_base.specs.Passes.{known, view}
 use Rattle.pp_calls.specs.Steps.{Stepped}
 use Rattle.pp_calls.proofs.Growing.{stepped_both}
 use Rattle.pp_shelf.specs.Shelves.{MovesFree}

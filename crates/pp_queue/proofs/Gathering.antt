@@ -1,5 +1,5 @@
 -- The walk along the line of a closed table.
-use Rattle.std.proofs.Common.{◌≡◌, ◌≢◌, ⊎_elim, ◌⊎◌, ℕ, zero, suc, ◌+◌, ◌*◌, ◌<◌, ◌≤◌, List, [], ◌∷◌, ◌++◌, map, length}
+use Rattle.std.proofs.Common.{◌≡◌, ◌≢◌, ⊎_elim, ℕ, suc, ◌+◌, ◌*◌, ◌<◌, ◌≤◌, List, [], ◌∷◌, ◌++◌, map, length}
 use Rattle.std.proofs.Common.{get_or, refl, sym, ap, ap₂, ◌∙◌}
 use Rattle.std.proofs.Common.{subst, arith, append_assoc, append-nil, length-append}
 use Rattle.std.proofs.lemmas.List.{length-map}
@@ -12,7 +12,7 @@ use Rattle.pp_rule.specs.Lists.{rest_of}
 use Rattle.pp_rule.specs.Rule.{Base}
 use Rattle.pp_rule.specs.States.{attached}
 use Rattle.pp_queues.specs.Queues.{QueueState, Queues}
-use Rattle.pp_queues.specs.Contents.{next_of, along, queue_alive, value_at, numbered}
+use Rattle.pp_queues.specs.Contents.{along, queue_alive, value_at, numbered}
 use Rattle.pp_queues.proofs.Lining.{leads_to}
 use Rattle.pp_queues.proofs.Closing.{along_more, along_nil, along_none, few_items, alive_long, numbered_long}
 

@@ -1,5 +1,5 @@
 -- The parts of a call go on, one after another.
-use Rattle.std.proofs.Common.{◌≡◌, ◌≢◌, length, arith, ℕ, ◌<◌, Bool, true, false, cond, eqb, List, [], ◌∷◌, ◌++◌, set, refl}
+use Rattle.std.proofs.Common.{◌≡◌, ◌≢◌, length, arith, ℕ, ◌<◌, List, [], refl}
 use Rattle.std.proofs.Common.{sym, ap, ◌∙◌, subst, append-nil}
 use Rattle.pp_rule.specs.declared.views.WalkSlot.{WalkSlot}
 use Rattle.pp_rule.specs.Orders.{placed_by}
@@ -11,7 +11,6 @@ use Rattle.pp_rule.specs.Steps.{MadeStep, with_walk, clearing}
 use Rattle.pp_rule.proofs.Histories.{begins_self, begins_through}
 use Rattle.pp_rule.proofs.Made.{known_after, order_begins, placed_after}
 use Rattle.pp_queues.specs.declared.calls.QueueChange.{QueueChange}
-use Rattle.pp_queues.specs.declared.calls.QueuePlaced.{QueuePlaced}
 use Rattle.pp_queues.specs.Queues.{QueuePass, QueueView, queue_forget}
 use Rattle.pp_queue.specs.Calling.{SameRest, GoesOn, IsEmpty}
 

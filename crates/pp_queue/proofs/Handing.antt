@@ -1,26 +1,21 @@
 -- What a pass has beside its seat agrees with what the seat knows after the dummy came in hand.
-use Rattle.std.proofs.Common.{◌≡◌, ◌≢◌, ℕ, zero, suc, ◌+◌, ◌*◌, ◌<◌, Bool, true, false, cond, eqb, ◌||◌, List, [], ◌∷◌, map}
+use Rattle.std.proofs.Common.{◌≡◌, ℕ, ◌<◌, Bool, true, false, cond, eqb, ◌||◌, List, [], ◌∷◌}
 use Rattle.std.proofs.Common.{length, take, refl, sym, ap, ◌∙◌}
-use Rattle.std.proofs.Common.{subst, arith, eq-eqb}
-use Rattle.atomic_table.specs.Table.{Me}
+use Rattle.std.proofs.Common.{arith, eq-eqb}
 use Rattle.atomic_table.specs.declared.shared.Seat.{Seat}
 use Rattle.pp_link.specs.declared.layout.Sizes.{Sizes}
 use Rattle.pp_link.specs.Links.{target}
 use Rattle.pp_rule.specs.declared.views.Chain.{Chain}
 use Rattle.pp_rule.specs.declared.views.ChainLink.{ChainLink}
-use Rattle.pp_rule.specs.Lists.{IsIn, first_of}
 use Rattle.pp_rule.specs.Paths.{links_of, led_to, IsChained}
-use Rattle.pp_rule.specs.Steps.{alone, IsAlone, detaching}
 use Rattle.pp_base.specs.declared.purse.InHand.{InHand}
 use Rattle.pp_base.specs.declared.purse.Purse.{Purse}
 use Rattle.pp_base.specs.Chains.{TookInHand}
-use Rattle.pp_base.specs.Passes.{known, named_of, in_hand_of, IsPassOf, Keeping}
+use Rattle.pp_base.specs.Passes.{known, in_hand_of, IsPassOf, Keeping}
 use Rattle.pp_base.proofs.Chaining.{keeping_taken}
-use Rattle.pp_base.proofs.Steady.{keeping_steady}
 use Rattle.pp_base.proofs.Telling.{made_alone, made_known}
-use Rattle.pp_queues.specs.Queues.{QueuePass, QueueView, dummy_chain}
-use Rattle.pp_queues.specs.Turns.{resting, stand, taken, with_own, MayTake, Took}
-use Rattle.pp_queue.proofs.Staying.{QueueMe}
+use Rattle.pp_queues.specs.Queues.{QueueView, dummy_chain}
+use Rattle.pp_queues.specs.Turns.{resting, stand, taken, Took}
 
 led_none : (x : ℕ) (l : ChainLink) → target l.word ≡ x → led_to x (l ∷ []) ≡ []
 unfolding led_to

@@ -1,5 +1,5 @@
 -- Steps at which nothing counts for a call of a queue.
-use Rattle.std.proofs.Common.{◌≡◌, ⊎_elim, ◌⊎◌, ℕ, zero, suc, ◌+◌, ◌*◌, ◌<◌, ◌≤◌, Bool, true, List, [], ◌∷◌, ◌++◌, length}
+use Rattle.std.proofs.Common.{◌≡◌, ⊎_elim, ℕ, zero, suc, ◌+◌, ◌*◌, ◌<◌, ◌≤◌, true, List, [], ◌∷◌, length}
 use Rattle.std.proofs.Common.{refl, sym, ap, ◌∙◌, subst, arith}
 use Rattle.std.proofs.Common.{append-nil}
 use Rattle.std.specs.Prelude.{replicate}
@@ -18,9 +18,8 @@ use Rattle.pp_unlink.specs.Invalidation.{Flushed}
 use Rattle.pp_reclaim.specs.Sweeps.{Reclaims, scan_steps}
 use Rattle.pp_shelf.specs.Shelves.{MissesShelves, PutsLast, EmptiesNone, TakesNone}
 use Rattle.pp_shelf.specs.Runs.{PutsMany, Tidies, TakesMany, Collects}
-use Rattle.pp_queues.specs.declared.calls.QueuePlaced.{QueuePlaced}
 use Rattle.pp_queues.specs.Queues.{QueuePass, QueueView}
-use Rattle.pp_queues.specs.Losses.{Tally, Ran}
+use Rattle.pp_queues.specs.Losses.{Tally}
 use Rattle.pp_queues.proofs.Counting.{ran_none, ran_quiet, ran_both, is_idle, counted_idle, counted_shelf, IsIdle}
 use Rattle.pp_queue.specs.Answers.{Idles}
 use Rattle.pp_queue.proofs.Removing.{flushed_order}

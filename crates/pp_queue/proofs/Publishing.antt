@@ -1,7 +1,7 @@
 -- A put that took effect.
-use Rattle.std.proofs.Common.{◌≡◌, ◌≢◌, ◌⊎◌, inl, inr, ℕ, zero, suc, ◌+◌, ◌*◌, ◌<◌, ◌≤◌, true, false, List, [], ◌∷◌, ◌++◌, map}
+use Rattle.std.proofs.Common.{◌≡◌, inl, inr, ℕ, zero, suc, ◌+◌, ◌*◌, ◌<◌, ◌≤◌, false, List, [], ◌∷◌, ◌++◌, map}
 use Rattle.std.proofs.Common.{length, refl, sym, ap, ◌∙◌, subst}
-use Rattle.std.proofs.Common.{arith, append_assoc, eq-eqb, ne_eqb, lt-ltb, length-append}
+use Rattle.std.proofs.Common.{arith, append_assoc, lt-ltb, length-append}
 use Rattle.std.proofs.Math.Decide.{ℕ_discrete}
 use mathlib.Core.Logic.{dite}
 use mathlib.Core.Option.{some, some-injective}
@@ -10,20 +10,19 @@ use Rattle.pp_link.specs.declared.layout.Sizes.{Sizes}
 use Rattle.pp_link.specs.Places.{head_place}
 use Rattle.pp_model.specs.declared.steps.Step.{Step}
 use Rattle.pp_rule.specs.declared.views.PrivateRecord.{PrivateRecord}
-use Rattle.pp_rule.specs.Lists.{IsIn, OnceBy, Once, times, remove_at}
+use Rattle.pp_rule.specs.Lists.{OnceBy, Once, times, remove_at}
 use Rattle.pp_rule.specs.Rule.{number_of}
-use Rattle.pp_rule.specs.Orders.{log_of, missed_step}
+use Rattle.pp_rule.specs.Orders.{log_of}
 use Rattle.pp_rule.proofs.Counting.{times_here}
 use Rattle.pp_rule.proofs.Put.{in_first, in_left}
 use Rattle.pp_base.specs.declared.purse.Purse.{Purse}
 use Rattle.pp_base.specs.Passes.{owned_numbers}
-use Rattle.pp_base.specs.Named.{misses}
 use Rattle.pp_pool.specs.Taken.{IsPrivate, IsPublished}
 use Rattle.pp_calls.proofs.Growing.{stepped_one, stepped_both}
 use Rattle.pp_queues.specs.Queues.{QueuePass, QueueView}
-use Rattle.pp_queues.specs.Turns.{put_step, advance_step, Advanced}
+use Rattle.pp_queues.specs.Turns.{put_step, Advanced}
 use Rattle.pp_queues.specs.Calls.{TriedToMove}
-use Rattle.pp_queues.specs.Losses.{Tally, one_more, counting, losing, striking, HasStruck, Ran}
+use Rattle.pp_queues.specs.Losses.{Tally, one_more, losing, striking, Ran}
 use Rattle.pp_queues.proofs.Closing.{times_of_once}
 use Rattle.pp_queues.proofs.Counting.{ran_one, ran_quiet, ran_both}
 use Rattle.pp_queue.specs.Steps.{LinkedAt}

@@ -1,5 +1,5 @@
 -- The ends of a put's turn.
-use Rattle.std.proofs.Common.{◌≡◌, ◌≢◌, ℕ, ◌+◌, ◌*◌, ◌<◌, ◌≤◌, true, false, List, [], ◌∷◌, ◌++◌, length, refl, sym, ap, ◌∙◌}
+use Rattle.std.proofs.Common.{◌≡◌, ◌≢◌, ℕ, ◌*◌, false, List, [], ◌∷◌, ◌++◌, length, refl, sym, ap, ◌∙◌}
 use Rattle.std.proofs.Common.{subst, arith, length-append}
 use mathlib.Core.Option.{some, some-injective}
 use lib.ListN.{get_elem?}
@@ -18,11 +18,10 @@ use Rattle.pp_queues.specs.declared.calls.QueueCall.{QueueCall}
 use Rattle.pp_queues.specs.declared.calls.QueueReply.{QueueReply}
 use Rattle.pp_queues.specs.declared.calls.QueueChange.{QueueChange}
 use Rattle.pp_queues.specs.declared.calls.QueuePlaced.{QueuePlaced}
-use Rattle.pp_queues.specs.Queue.{placed}
 use Rattle.pp_queues.specs.Queues.{QueuePass, QueueView}
-use Rattle.pp_queues.specs.Turns.{stand, leading, with_own, linked, Looked, MayAdvance, placed_at}
+use Rattle.pp_queues.specs.Turns.{leading, with_own, linked, Looked, MayAdvance, placed_at}
 use Rattle.pp_queue.specs.Calling.{GoesOn, StandsAt, IsHeadWord, Struck}
-use Rattle.pp_queue.proofs.Going.{goes_made, goes_on}
+use Rattle.pp_queue.proofs.Going.{goes_made}
 
 pub goes_looked : (place n : ℕ) (v w : QueueView) → Looked place n v w → GoesOn v w
 goes_looked place n v w l = goes_made v w l.made record {

@@ -1,5 +1,5 @@
 -- A reclaim pass, as it is told by the names of its steps, is one by the steps of a call.
-use Rattle.std.proofs.Common.{◌≡◌, ℕ, zero, suc, ◌+◌, ◌*◌, ⊎_elim, ◌⊎◌, ◌≢◌, ◌<◌, ◌≤◌, List, [], ◌∷◌, ◌++◌, map, length}
+use Rattle.std.proofs.Common.{◌≡◌, ℕ, zero, suc, ◌+◌, ◌*◌, ⊎_elim, ◌⊎◌, ◌<◌, ◌≤◌, List, [], ◌∷◌, ◌++◌, map, length}
 use Rattle.std.proofs.Common.{Some, None, Option, IfNone, refl, sym, ap, ◌∙◌, subst, arith, length-append}
 use Rattle.std.specs.Prelude.{slice_get}
 use Rattle.std.proofs.lemmas.List.{length-map}
@@ -12,7 +12,7 @@ use Rattle.pp_link.specs.Places.{frontier_place, walk_place, shelf_place}
 use Rattle.pp_model.specs.declared.steps.Step.{Step}
 use Rattle.pp_model.specs.Pass.{MapSizes}
 use Rattle.pp_rule.specs.Causes.{pool_sizes, IsReclaim, FoundNone, owned_after}
-use Rattle.pp_rule.specs.Orders.{made_by, unshelve_step, scan_frontier_step, scan_walk_step}
+use Rattle.pp_rule.specs.Orders.{made_by, scan_frontier_step, scan_walk_step}
 use Rattle.pp_base.specs.Named.{NamedStep, name_of, Made, in_turn, unshelves, scans_frontier, scans_walk}
 use Rattle.pp_reclaim.specs.Sweeps.{scan_steps, Reclaims}
 use Rattle.pp_rule.specs.Lists.{IsIn}

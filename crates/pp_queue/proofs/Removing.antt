@@ -1,5 +1,5 @@
 -- The steps of a try to move head 0 on.
-use Rattle.std.proofs.Common.{◌≡◌, ◌≢◌, ℕ, zero, suc, ◌+◌, ◌*◌, ◌<◌, ◌≤◌, true, List, [], ◌∷◌, ◌++◌, length, get_or, set}
+use Rattle.std.proofs.Common.{◌≡◌, ◌≢◌, ℕ, zero, suc, ◌*◌, ◌<◌, ◌≤◌, List, [], ◌∷◌, ◌++◌, length, get_or}
 use Rattle.std.proofs.Common.{refl, sym, ap, ap₂, ◌∙◌, subst, arith}
 use Rattle.std.proofs.Common.{append-nil, length-append}
 use Rattle.std.proofs.Math.Decide.{ℕ_discrete}
@@ -9,14 +9,13 @@ use Rattle.pp_link.specs.Places.{head_place}
 use Rattle.pp_rule.specs.declared.views.WalkSlot.{WalkSlot}
 use Rattle.pp_rule.specs.Lists.{BeginsWith}
 use Rattle.pp_rule.specs.Orders.{log_of, placed_by}
-use Rattle.pp_rule.specs.Views.{slot, blank, guarding, value_of}
+use Rattle.pp_rule.specs.Views.{blank, guarding}
 use Rattle.pp_rule.specs.Steps.{MadeStep, IsUnused}
 use Rattle.pp_rule.proofs.Histories.{begins_self, begins_through, log_begins}
 use Rattle.pp_rule.proofs.Made.{known_after, order_begins, placed_after, seen_after_step}
-use Rattle.pp_base.specs.Named.{NamedStep, MadeOne, Made}
-use Rattle.pp_base.specs.Passes.{IsAtRest}
+use Rattle.pp_base.specs.Named.{NamedStep, Made}
 use Rattle.pp_unlink.specs.Invalidation.{Flushed}
-use Rattle.pp_unlink.specs.Unlinking.{MayFlush, SameHeld}
+use Rattle.pp_unlink.specs.Unlinking.{MayFlush}
 use Rattle.pp_queues.specs.declared.calls.QueueChange.{QueueChange}
 use Rattle.pp_queues.specs.declared.calls.QueuePlaced.{QueuePlaced}
 use Rattle.pp_queues.specs.declared.calls.QueueCall.TheVariants as call
@@ -25,7 +24,7 @@ use Rattle.pp_queues.specs.declared.own.QueueOwn.{QueueOwn}
 use Rattle.pp_queues.specs.Queue.{placed}
 use Rattle.pp_queues.specs.Queues.{QueuePass, QueueView}
 use Rattle.pp_queues.specs.Turns.{stand, MayTake}
-use Rattle.pp_queue.specs.Calling.{MayRemove, GoesFree, TookOff}
+use Rattle.pp_queue.specs.Calling.{MayRemove, TookOff}
 
 -- steps at which no call was placed
 pub record OnOrder (v w : QueueView) : Type 0 where

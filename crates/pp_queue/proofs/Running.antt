@@ -1,27 +1,27 @@
 -- The lost turns that a queue's own steps count.
-use Rattle.std.proofs.Common.{◌≡◌, ◌≢◌, ℕ, zero, suc, ⊎_elim, ◌⊎◌, List, [], ◌∷◌, ◌++◌, length, ◌+◌, ◌*◌, ◌/◌, ◌%◌, ◌<◌, ◌≤◌}
+use Rattle.std.proofs.Common.{◌≡◌, ◌≢◌, ℕ, zero, suc, ⊎_elim, List, [], ◌∷◌, ◌++◌, length, ◌+◌, ◌*◌, ◌<◌, ◌≤◌}
 use Rattle.std.proofs.Common.{Bool, true, false, cond, not, eqb, refl, sym, ap, ◌∙◌, subst, arith}
-use Rattle.std.proofs.Common.{eq-eqb, ne_eqb, lt-ltb}
+use Rattle.std.proofs.Common.{ne_eqb, lt-ltb}
 use Rattle.std.proofs.Math.Decide.{ℕ_discrete}
 use mathlib.Core.Logic.{dite}
 use Rattle.pp_link.specs.declared.layout.Sizes.{Sizes}
-use Rattle.pp_link.specs.Links.{target, invalid_bit}
-use Rattle.pp_link.specs.Places.{head_place, cell_place, frontier_place}
+use Rattle.pp_link.specs.Links.{invalid_bit}
+use Rattle.pp_link.specs.Places.{cell_place, frontier_place}
 use Rattle.pp_rule.specs.Lists.{IsIn}
 use Rattle.pp_rule.specs.Steps.{MadeQuietStep, Confirmed}
 use Rattle.pp_rule.specs.Paths.{links_of}
 use Rattle.pp_rule.proofs.Put.{in_nil, in_cases, in_either, in_one}
 use Rattle.pp_base.specs.Chains.{chain_at}
-use Rattle.pp_base.specs.Passes.{known, view}
+use Rattle.pp_base.specs.Passes.{view}
 use Rattle.pp_unlink.specs.Invalidation.{Invalidated, Flushed, invalidations}
 use Rattle.pp_unlink.specs.Unlinking.{MayFlush}
 use Rattle.pp_hazard.specs.Reading.{ReadValue}
 use Rattle.atomic_table.specs.declared.shared.Seat.{Seat}
 use Rattle.pp_base.specs.Named.{NamedStep, retires, invalidates, loads, confirms, misses}
 use Rattle.pp_queues.specs.Queues.{QueuePass, QueueView}
-use Rattle.pp_queues.specs.Turns.{stand, IsEnd, Begins, Ends, Came, Saw, Looked, Tried, Advanced, Linked, Took}
-use Rattle.pp_queues.specs.Losses.{Tally, one_more, counting, losing, striking, HasStruck, Ran}
-use Rattle.pp_queues.proofs.Counting.{ran_one, ran_quiet, ran_none, ran_both, ran_made, ran_struck, is_idle, counted_idle}
+use Rattle.pp_queues.specs.Turns.{stand, IsEnd, Begins, Ends, Came, Saw, Looked, Tried, Advanced, Took}
+use Rattle.pp_queues.specs.Losses.{Tally, one_more, counting, losing, striking, Ran}
+use Rattle.pp_queues.proofs.Counting.{ran_one, ran_quiet, ran_none, ran_both, ran_made, is_idle, counted_idle}
 use Rattle.pp_queue.specs.Steps.{LinkedAt}
 
 -- A load counts a lost turn where it finds INVALID.

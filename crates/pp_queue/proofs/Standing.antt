@@ -21,7 +21,7 @@ use Rattle.pp_rule.proofs.Made.{known_after}
 use Rattle.pp_rule.proofs.Put.{in_left}
 use Rattle.pp_rule.proofs.Undisturbed.{by_state}
 use Rattle.pp_base.specs.Made.{HasRun}
-use Rattle.pp_base.specs.Passes.{known, view}
+use Rattle.pp_base.specs.Passes.{view}
 use Rattle.pp_queues.specs.declared.calls.QueueChange.{QueueChange}
 use Rattle.pp_queues.specs.declared.calls.QueuePlaced.{QueuePlaced}
 use Rattle.pp_queues.specs.Queue.{items_of}

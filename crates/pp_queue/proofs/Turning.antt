@@ -1,13 +1,12 @@
 -- The ends of a take's turn.
-use Rattle.std.proofs.Common.{◌≡◌, ◌≢◌, ℕ, ◌+◌, ◌*◌, ◌<◌, ◌≤◌, true, List, [], ◌∷◌, ◌++◌, length, get_or, refl, sym, ap, ◌∙◌}
+use Rattle.std.proofs.Common.{◌≡◌, ◌≢◌, ℕ, ◌*◌, ◌≤◌, true, List, [], ◌∷◌, ◌++◌, length, get_or, refl, sym, ap, ◌∙◌}
 use Rattle.std.proofs.Common.{subst, arith, length-append}
 use Rattle.std.proofs.Math.Decide.{ℕ_discrete}
 use mathlib.Core.Logic.{dite}
 use Rattle.atomic_table.specs.declared.shared.Seat.{Seat}
 use Rattle.pp_link.specs.declared.layout.Sizes.{Sizes}
-use Rattle.pp_rule.specs.Lists.{IsIn, BeginsWith}
+use Rattle.pp_rule.specs.Lists.{IsIn}
 use Rattle.pp_rule.specs.Orders.{log_of, placed_by}
-use Rattle.pp_rule.specs.Steps.{MadeStep, IsUnused}
 use Rattle.pp_rule.proofs.Histories.{begins_through, log_begins}
 use Rattle.pp_rule.proofs.Made.{known_after, order_begins, placed_after}
 use Rattle.pp_base.specs.declared.purse.Purse.{Purse}
@@ -22,7 +21,7 @@ use Rattle.pp_queues.specs.Queue.{queue, reply, placed}
 use Rattle.pp_queues.specs.Queues.{QueuePass, QueueView}
 use Rattle.pp_queues.specs.Turns.{stand, Saw, Tried, Settled, Advanced}
 use Rattle.pp_model.proofs.Logs.{after_grown}
-use Rattle.pp_queue.specs.Calling.{SameRest, GoesOn, GoesFree, TookOff, WentOn, SaidEmpty}
+use Rattle.pp_queue.specs.Calling.{GoesOn, GoesFree, TookOff, WentOn, SaidEmpty}
 use Rattle.pp_queue.proofs.Going.{rest_self, goes_made, goes_on}
 
 -- what a pass at rest has stays where its lists are as they were

@@ -1,8 +1,7 @@
 -- The turns of a take put together.
-use Rattle.std.proofs.Common.{◌≡◌, ◌≢◌, ℕ, ◌+◌, ◌*◌, ◌<◌, ◌≤◌, true, false, List, [], ◌∷◌, ◌++◌, length, refl, sym, ap, ◌∙◌}
+use Rattle.std.proofs.Common.{◌≡◌, ℕ, ◌<◌, true, false, List, [], ◌∷◌, ◌++◌, length, refl, sym, ap, ◌∙◌}
 use Rattle.std.proofs.Common.{subst, arith, length-append, append-nil}
 use Rattle.pp_link.specs.declared.layout.Sizes.{Sizes}
-use Rattle.pp_link.specs.Links.{target}
 use Rattle.pp_link.specs.Places.{IsWithin}
 use Rattle.pp_rule.specs.Orders.{log_of, placed_by}
 use Rattle.pp_rule.proofs.Histories.{begins_self, begins_through, log_begins}
@@ -16,7 +15,6 @@ use Rattle.pp_queues.specs.declared.calls.QueueReply.TheVariants as said
 use Rattle.pp_queues.specs.declared.calls.QueueCall.{QueueCall}
 use Rattle.pp_queues.specs.declared.calls.QueueReply.{QueueReply}
 use lib.ListN.{get_elem?}
-use mathlib.Core.Option.{some}
 use Rattle.pp_rule.specs.declared.views.PrivateRecord.{PrivateRecord}
 use Rattle.pp_rule.specs.Rule.{number_of}
 use Rattle.pp_rule.specs.Lists.{times}
@@ -28,12 +26,11 @@ use Rattle.pp_queues.specs.Turns.{IsEnd, Begins, Ends}
 use Rattle.pp_rule.specs.Steps.{MadeQuietStep}
 use Rattle.pp_model.specs.Pass.{seen_first}
 use Rattle.pp_calls.proofs.Growing.{stepped_one, stepped_both}
-use Rattle.pp_queues.specs.Losses.{Tally, counting, losing, striking, Ran}
+use Rattle.pp_queues.specs.Losses.{Tally, counting, losing, Ran}
 use Rattle.pp_queues.proofs.Counting.{ran_one, ran_quiet, ran_both}
 use Rattle.pp_queue.specs.Calling.{GoesOn, WentOn, SaidEmpty, TookOff, IsHeadWord, Struck, HasRecord}
 use Rattle.pp_queue.specs.Answers.{Began, TookNone}
 use Rattle.pp_queue.proofs.Running.{counted_load, end_valid}
-use Rattle.pp_queue.proofs.Going.{rest_self, goes_made}
 
 pub head_word_of : (z : Sizes) (found : ℕ) → IsWithin z → IsEnd z found → IsHeadWord found
 head_word_of z found within e = let some = e.number.0 in let most = e.number.1 in let few = within.records in

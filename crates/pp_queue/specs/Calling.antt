@@ -1,14 +1,11 @@
 -- What the parts of a call on a queue make of the view of its pass.
-use Rattle.std.specs.Prelude.{◌≡◌, ◌≢◌, ◌⊎◌, ℕ, ◌+◌, ◌*◌, ◌<◌, ◌≤◌, Bool, true, false, List, [], ◌∷◌, ◌++◌, length, Option}
-use Rattle.std.specs.Prelude.{Some, None, Result, Ok, Err}
+use Rattle.std.specs.Prelude.{◌≡◌, ◌≢◌, ℕ, ◌+◌, ◌*◌, ◌<◌, ◌≤◌, Bool, true, false, [], ◌∷◌, ◌++◌, length}
 use Rattle.pp_link.specs.declared.layout.Sizes.{Sizes}
 use Rattle.pp_link.specs.Links.{target}
 use Rattle.pp_rule.specs.declared.views.WalkSlot.{WalkSlot}
-use Rattle.pp_link.specs.Places.{head_place}
-use Rattle.pp_model.specs.declared.steps.Step.{Step}
-use Rattle.pp_rule.specs.Lists.{IsIn, BeginsWith, times}
-use Rattle.pp_rule.specs.Orders.{log_of, placed_by, missed_step}
-use Rattle.pp_rule.specs.Views.{slot, value_of}
+use Rattle.pp_rule.specs.Lists.{BeginsWith, times}
+use Rattle.pp_rule.specs.Orders.{log_of, placed_by}
+use Rattle.pp_rule.specs.Views.{slot}
 use lib.ListN.{get_elem?}
 use mathlib.Core.Option.{some}
 use Rattle.pp_rule.specs.declared.views.PrivateRecord.{PrivateRecord}
@@ -19,13 +16,12 @@ use Rattle.pp_queues.specs.declared.calls.QueueReply.{QueueReply}
 use Rattle.pp_queue.specs.Steps.{value_in}
 use Rattle.pp_queues.specs.declared.calls.QueueCall.TheVariants as call
 use Rattle.pp_queues.specs.declared.calls.QueueReply.TheVariants as said
-use Rattle.pp_queues.specs.declared.calls.QueuePlaced.{QueuePlaced}
 use Rattle.pp_queue.specs.declared.calling.TakeTurn.{TakeTurn}
 use Rattle.pp_queue.specs.declared.calling.TakeTurn.TheVariants as turn
 use Rattle.pp_model.specs.Objects.{after}
 use Rattle.pp_queues.specs.Queue.{queue, reply, placed}
 use Rattle.pp_queues.specs.Queues.{QueuePass, QueueView}
-use Rattle.pp_queues.specs.Turns.{stand, put_step, advance_step}
+use Rattle.pp_queues.specs.Turns.{stand}
 use Rattle.pp_queues.specs.Calls.{TriedToMove}
 use Rattle.pp_queues.specs.Losses.{Tally, losing, striking, HasStruck, Ran}
 

@@ -1,5 +1,5 @@
 -- Where nothing fails and nothing is wrong, a queue's replay answers its lines.
-use Rattle.std.proofs.Common.{◌≡◌, ℕ, ◌≤◌, List, ◌++◌, length, refl, sym, ap, ap₂, ◌∙◌, inl, inr, arith, length-append}
+use Rattle.std.proofs.Common.{◌≡◌, ℕ, ◌≤◌, List, length, refl, sym, ap, ap₂, ◌∙◌, inl, inr, arith, length-append}
 use Rattle.std.specs.Prelude.{Option, Some, None}
 use Rattle.std.specs.Io.KnownBytes.{Consumes}
 use Rattle.std.proofs.KnownBytes.{Consumes-whole}
@@ -44,7 +44,12 @@ module _ (words : List (List ℕ)) (before after : World) (answers : List (List 
 
   not_too_long : GaveMore 16777216 before.source.bytes after.source.bytes → ⊥
   not_too_long gave =
-      absurd (omega (arith, gave_part before.source.bytes after.source.bytes good.bytes gave.bytes good.tells gave.consumed, gave.many, good.within))
+      absurd (omega (
+        arith,
+        gave_part before.source.bytes after.source.bytes good.bytes gave.bytes good.tells gave.consumed,
+        gave.many,
+        good.within,
+      ))
 
   pub complete : (w : Way) → Cause w words before after answers kept → IsAnswered (status_of w)
   complete way.Answered cause = inl refl

@@ -1,12 +1,12 @@
 -- How printing ends, and what that makes of a queue's replay.
-use Rattle.std.proofs.Common.{◌≡◌, ℕ, suc, ◌*◌, ◌^◌, ◌<◌, ◌≤◌, List, [], ◌∷◌, length, refl, sym, ap, ◌∙◌, arith, Ok}
+use Rattle.std.proofs.Common.{◌≡◌, ℕ, suc, ◌*◌, ◌^◌, ◌<◌, ◌≤◌, List, [], ◌∷◌, length, refl, sym, ◌∙◌, arith, Ok}
 use Rattle.std.specs.Prelude.{Bool, false, Option, Some, None, sum_by, is_some}
 use Rattle.std.proofs.lemmas.Bool.{true≢false}
 use Rattle.pp_trace.specs.declared.Make.{Make}
 use Rattle.std.proofs.lemmas.List.Sums.{sum_by-cons}
 use Rattle.pp_devices.specs.declared.ways.Way.{Way}
 use Rattle.pp_devices.specs.declared.ways.Way.TheVariants as way
-use Rattle.pp_devices.specs.Devices.{Device, World, world}
+use Rattle.pp_devices.specs.Devices.{Device, world}
 use Rattle.pp_model.specs.Lists.{AtEach}
 use Rattle.pp_words.specs.declared.Settings.{Settings}
 use Rattle.pp_queues.specs.declared.calls.QueueAnswer.{QueueAnswer}

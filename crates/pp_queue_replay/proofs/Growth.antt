@@ -5,8 +5,8 @@ use Rattle.pp_queues.specs.declared.calls.QueueCall.{QueueCall}
 use Rattle.pp_queue_replay.specs.Grammar.{with_call}
 
 -- a push to one of the vectors is a push to its list
-pub with_call-set : {X : Type 0} (list : X → List QueueCall) (vectors : List X) (caller : ℕ) (old new : X) (call : QueueCall) → caller < length vectors
-    → old ≡ get_or vectors caller old → list new ≡ list old ++ call ∷ []
+pub with_call-set : {X : Type 0} (list : X → List QueueCall) (vectors : List X) (caller : ℕ) (old new : X) (call : QueueCall)
+    → caller < length vectors → old ≡ get_or vectors caller old → list new ≡ list old ++ call ∷ []
     → map list (set vectors caller new) ≡ with_call (map list vectors) caller call
 with_call-set list vectors caller old new call within was is =
     map-set list vectors caller new

@@ -35,7 +35,8 @@ at_equal : (z : Sizes) (races : ℕ) (p q m n : QueuePassView) (calls more : Lis
     → p ≡ q → calls ≡ more → got ≡ given → m ≡ n → AnswersCalls z races p calls got m → AnswersCalls z races q more given n
 at_equal z races p q m n calls more got given a b c d ran = rw (← a, ← b, ← c, ← d) ran
 
-module _ {P : Type 0} (pass_of : Job → P) (view : P → QueuePassView) (Ready : P → Type 0) (z : Sizes) (races : ℕ) (passes : List P) (lists : List (Vec QueueCall Global)) (was now : List Job)
+module _ {P : Type 0} (pass_of : Job → P) (view : P → QueuePassView) (Ready : P → Type 0) (z : Sizes) (races : ℕ)
+    (passes : List P) (lists : List (Vec QueueCall Global)) (was now : List Job)
     (passes_are : map pass_of was ≡ passes) (lists_are : map (λ job. job.calls) was ≡ lists)
     (opens : AtEach passes (λ c pass. Ready pass × IsOpened c (view pass)))
     (ran : AtBoth was now (λ a b. Ready (pass_of b) × (b.calls.items ≡ a.calls.items)
@@ -78,8 +79,8 @@ module _ {P : Type 0} (pass_of : Job → P) (view : P → QueuePassView) (Ready 
         let got_is : y.answers.items ≡ got =
         let e = sym (at_mapped (λ v. v.items) (map (λ job. job.answers) now) c y.answers (at_mapped
         (λ job. job.answers) now c y from.1)) ∙ answer in (cc) in
-        at_equal z races (view (pass_of x)) pass (view (pass_of y)) last x.calls.items calls y.answers.items got pass_is list_is got_is last_is
-        both.2
+        at_equal z races (view (pass_of x)) pass (view (pass_of y)) last x.calls.items calls y.answers.items got
+        pass_is list_is got_is last_is both.2
 
     -- closing what the jobs left makes one run
     pub runs : (items free : List ℕ) (run : QueueRun)

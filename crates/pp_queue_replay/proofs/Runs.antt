@@ -1,5 +1,5 @@
 -- A run that was closed is one recorded run, and says what each caller did.
-use Rattle.std.proofs.Common.{◌≡◌, ℕ, zero, suc, ◌+◌, ◌<◌, List, [], ◌∷◌, ◌++◌, length, map, Some, refl, sym, ap, ◌∙◌, subst, arith}
+use Rattle.std.proofs.Common.{◌≡◌, ℕ, suc, ◌+◌, ◌<◌, List, [], ◌∷◌, ◌++◌, length, map, Some, refl, sym, ap, ◌∙◌, subst, arith}
 use Rattle.std.specs.Prelude.{slice_get}
 use Rattle.std.proofs.lemmas.Option.{slice_get-get_or, slice_get_within}
 use Rattle.std.proofs.lemmas.List.{length-map}
@@ -10,7 +10,7 @@ use Rattle.pp_model.specs.Objects.{CallerList, callers_of, IsRecordedRun, IsHist
 use Rattle.pp_model.proofs.CallersOrder.{is_history}
 use Rattle.pp_model.specs.declared.steps.OrderEntry.{OrderEntry}
 use Rattle.pp_rule.specs.Lists.{IsIn}
-use Rattle.pp_rule.specs.Orders.{changes_of, steps_of}
+use Rattle.pp_rule.specs.Orders.{steps_of}
 use Rattle.pp_queues.specs.declared.calls.QueueAnswer.{QueueAnswer}
 use Rattle.pp_queues.specs.declared.calls.QueueCall.{QueueCall}
 use Rattle.pp_queues.specs.declared.calls.QueueChange.{QueueChange}

@@ -1,10 +1,9 @@
 -- A queue's replay from the passes with which its queue starts.
-use Rattle.std.proofs.Common.{◌≡◌, ℕ, zero, suc, ◌+◌, ◌*◌, ◌<◌, ◌≤◌, Bool, true, false, cond, List, [], ◌∷◌, length, map, refl}
+use Rattle.std.proofs.Common.{◌≡◌, ℕ, zero, suc, ◌+◌, ◌≤◌, Bool, true, false, cond, List, [], ◌∷◌, length, refl}
 use Rattle.std.proofs.Common.{sym, ap, ap₂, ◌∙◌}
 use Rattle.std.proofs.Common.{subst, arith, ⊎_elim, Some}
 use Rattle.std.specs.Prelude.{slice_get, count_by}
 use Rattle.std.proofs.lemmas.Bool.{cases_Bool}
-use Rattle.std.proofs.lemmas.List.{length-map}
 use Rattle.std.proofs.lemmas.List.Sums.{sum_by-cons}
 use Rattle.std.proofs.lemmas.Option.{slice_get-get_or, slice_get_within}
 use Rattle.std.proofs.Math.ListN.{get_or}
@@ -30,7 +29,6 @@ use Rattle.pp_queue_replay.specs.Replay.{IsRunUnder}
 use Rattle.pp_queue_replay.specs.Runs.{IsOpened, IsRunOf, IsCaller, puts}
 use Rattle.pp_queue_replay.specs.Text.{count_all, is_full, is_lost}
 use Rattle.pp_queue_replay.proofs.Chains.{answers_each, never_full, never_lost}
-use Rattle.pp_queue_replay.proofs.Lists.{mapped_at}
 
 numbers_long : (low n : ℕ) → length (numbers_from low n) ≡ n
 unfolding numbers_from

@@ -1,6 +1,6 @@
 -- What a queue's trace says: the calls of each caller, or its first bad line. Lines, fields and numbers are those of a trace of map
 -- calls, and so is what is skipped.
-use Rattle.std.specs.Prelude.{◌≡◌, ℕ, ◌+◌, ◌≤◌, ◌==◌, Bool, cond, List, [], ◌∷◌, ◌++◌, map, length, Option, Some, None, ok_or, ⊤}
+use Rattle.std.specs.Prelude.{◌≡◌, ℕ, ◌+◌, ◌≤◌, ◌==◌, cond, List, [], ◌∷◌, ◌++◌, map, length, Option, Some, None, ⊤}
 use Rattle.std.specs.Prelude.{Result, Ok, Err, codes, slice_set, slice_index_or}
 use Rattle.std.specs.List.{filter_map}
 use Rattle.std.specs.Str.{bytes_eq}

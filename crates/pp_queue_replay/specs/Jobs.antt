@@ -1,8 +1,6 @@
 -- What a queue's callers have to do, and what they did.
-use Rattle.std.specs.Prelude.{◌≡◌, ℕ, ◌≤◌, List, [], length, Some, slice_get}
+use Rattle.std.specs.Prelude.{◌≡◌, ℕ, ◌≤◌, List, [], length}
 use Rattle.pp_model.specs.Lists.{AtEach}
-use Rattle.pp_base.specs.Passes.{known}
-use Rattle.pp_queues.specs.declared.calls.QueueAnswer.{QueueAnswer}
 use Rattle.pp_queues.specs.declared.calls.QueueCall.{QueueCall}
 use Rattle.pp_queue.specs.declared.queue.Queue.{Queue}
 use Rattle.pp_queue.specs.Passes.{IsReady, pass_seen}

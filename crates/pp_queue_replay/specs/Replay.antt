@@ -70,7 +70,8 @@ pub record IsRunUnder (settings : Settings) (lists : List (List QueueCall)) (ans
 
 -- The words say settings; the source says each caller's calls; a run of a queue answered them; and the text is that of the answers
 -- and of the items after the whole log.
-pub record IsReplay (words : List (List ℕ)) (before after : World) (answers : List (List QueueAnswer)) (kept : Option QueueRun) : Type 0 where
+pub record IsReplay (words : List (List ℕ)) (before after : World) (answers : List (List QueueAnswer))
+    (kept : Option QueueRun) : Type 0 where
   pub settings : Settings
   pub said_by : Says words settings
   pub lists : List (List QueueCall)

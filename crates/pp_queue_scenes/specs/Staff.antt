@@ -1,5 +1,5 @@
 -- The passes of a scene.
-use Rattle.std.specs.Prelude.{◌≡◌, ℕ, List, length}
+use Rattle.std.specs.Prelude.{◌≡◌, List, length}
 use Rattle.pp_rule.specs.declared.shape.Shape.{Ghosts}
 use Rattle.pp_base.specs.declared.pool.Pass.{Pass}
 use Rattle.pp_base.specs.Passes.{known}

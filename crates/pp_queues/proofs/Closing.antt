@@ -1,18 +1,15 @@
 -- What a closed queue tells.
-use Rattle.std.proofs.Common.{◌≡◌, ◌≢◌, ⊎_elim, ℕ, zero, suc, ◌+◌, ◌*◌, ◌<◌, ◌≤◌, Bool, true, false, cond, eqb, List, []}
+use Rattle.std.proofs.Common.{◌≡◌, ◌≢◌, ⊎_elim, ℕ, zero, suc, ◌+◌, ◌<◌, ◌≤◌, Bool, cond, List, []}
 use Rattle.std.proofs.Common.{◌∷◌, map, length}
 use Rattle.std.proofs.Common.{get_or, refl, sym, ap, ap₂, ◌∙◌, subst, arith, eq-eqb, ne_eqb}
-use Rattle.std.proofs.lemmas.List.{length-map}
 use Rattle.std.proofs.Math.Decide.{ℕ_discrete}
 use mathlib.Core.Logic.{dite}
-use mathlib.Core.Option.{some}
-use lib.ListN.{get_elem?}
 use Rattle.pp_link.specs.declared.layout.Sizes.{Sizes}
 use Rattle.pp_link.specs.Links.{target}
 use Rattle.pp_link.specs.Places.{IsNumber}
 use Rattle.pp_link.specs.Words.{head_word, cell_word}
 use Rattle.pp_model.specs.declared.Pair.{Pair}
-use Rattle.pp_rule.specs.Lists.{IsIn, Once, OnceBy, times, rest_of}
+use Rattle.pp_rule.specs.Lists.{IsIn, Once, times, rest_of}
 use Rattle.pp_rule.specs.Orders.{log_of}
 use Rattle.pp_rule.specs.Rule.{Base}
 use Rattle.pp_rule.specs.Laws.{Closes}
@@ -21,9 +18,8 @@ use Rattle.pp_rule.proofs.Put.{in_nil, in_first, in_later, in_cases}
 use Rattle.pp_rule.proofs.Without.{once_cons}
 use Rattle.pp_base.proofs.Numbered.{bounded}
 use Rattle.pp_queues.specs.Queue.{items_of}
-use Rattle.pp_queues.specs.Lines.{Heap, heap, Lined}
 use Rattle.pp_queues.specs.Queues.{QueueState, Queues}
-use Rattle.pp_queues.specs.Contents.{next_of, along, queue_alive, value_at, numbered, queue_pairs, queue_count}
+use Rattle.pp_queues.specs.Contents.{next_of, along, queue_alive, value_at, numbered, queue_count}
 use Rattle.pp_queues.specs.Contents.{QueueGathered, QueueTells, QueueTellsPass}
 use Rattle.pp_queues.proofs.Lining.{leads_to}
 

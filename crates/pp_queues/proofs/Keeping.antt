@@ -1,15 +1,14 @@
 -- What steps leave of the calls of the passes.
-use Rattle.std.specs.Prelude.{slice_get}
-use Rattle.std.proofs.Common.{◌≡◌, ◌≢◌, ◌⊎◌, inl, inr, ⊎_elim, ℕ, zero, suc, ◌+◌, ◌*◌, ◌<◌, ◌≤◌, Bool, true, false, cond, eqb}
-use Rattle.std.proofs.Common.{List, [], ◌∷◌, ◌++◌, length, get_or, set, Option, Some, None, sym, refl, ap, ap₂, ◌∙◌, subst, arith}
-use Rattle.std.proofs.Common.{eq-eqb, ne_eqb}
+use Rattle.std.proofs.Common.{◌≡◌, ◌≢◌, inl, inr, ⊎_elim, ℕ, ◌+◌, ◌*◌, ◌<◌, ◌≤◌, Bool, true, false, cond, eqb}
+use Rattle.std.proofs.Common.{List, [], ◌∷◌, ◌++◌, length, sym, refl, ap, ap₂, ◌∙◌, subst, arith}
+use Rattle.std.proofs.Common.{eq-eqb}
 use Rattle.std.proofs.Math.Bool.{false≢true}
 use Rattle.std.proofs.Math.Decide.{ℕ_discrete}
 use mathlib.Core.Logic.{dite}
 use Rattle.pp_link.specs.declared.layout.Sizes.{Sizes}
 use Rattle.pp_link.specs.Links.{target, invalid_bit}
 use Rattle.pp_link.specs.Places.{IsNumber}
-use Rattle.pp_link.specs.Words.{head_word, cell_word}
+use Rattle.pp_link.specs.Words.{cell_word}
 use Rattle.pp_model.specs.Lists.{AtEach}
 use Rattle.pp_rule.specs.declared.views.WalkSlot.{WalkSlot}
 use Rattle.pp_rule.specs.declared.views.PassState.{PassState}
@@ -25,11 +24,11 @@ use Rattle.pp_rule.proofs.Stepping.{after_step}
 use Rattle.pp_queues.specs.declared.calls.QueueChange.{QueueChange}
 use Rattle.pp_queues.specs.declared.calls.QueuePlaced.{QueuePlaced}
 use Rattle.pp_queues.specs.declared.own.QueueOwn.{QueueOwn}
-use Rattle.pp_queues.specs.Queue.{queue, items_of, IsSound, StandsIn}
+use Rattle.pp_queues.specs.Queue.{queue, items_of, IsSound}
 use Rattle.pp_queues.specs.Lines.{Heap, heap, Lined, Stood, Sole, Still, Steady, Alike}
 use Rattle.pp_queues.specs.Queues.{QueuePass, QueueState, QueueStep, Calls, Queues, IsOwnStep, queue_forget}
 use Rattle.pp_model.proofs.Logs.{stands_grown}
-use Rattle.pp_queues.proofs.Lining.{is_used, lined_alike, steady_alike, still_alike}
+use Rattle.pp_queues.proofs.Lining.{lined_alike, steady_alike, still_alike}
 
 module _ {E A W : Type 0} (z : Sizes) (words words' : List ℕ) (g g' : PoolState E A W) where
   pub alike_seen : SameSeen z words words' g g' → Alike z (heap z words g.status) (heap z words' g'.status)

@@ -1,5 +1,5 @@
 -- A queue meets the laws of a shape.
-use Rattle.std.proofs.Common.{◌≡◌, ◌≢◌, ⊎_elim, ℕ, zero, suc, ◌+◌, ◌*◌, ◌<◌, ◌≤◌, true, false, List, [], ◌∷◌, length, refl}
+use Rattle.std.proofs.Common.{◌≡◌, ℕ, zero, suc, ◌+◌, ◌*◌, ◌≤◌, List, [], length, refl}
 use Rattle.std.proofs.Common.{sym, ap, ◌∙◌, subst, arith}
 use Rattle.std.proofs.Math.Bool.{false≢true}
 use Rattle.std.proofs.Math.Decide.{ℕ_discrete}
@@ -10,7 +10,7 @@ use Rattle.pp_link.specs.Places.{IsNumber}
 use Rattle.pp_rule.specs.Lists.{IsIn}
 use Rattle.pp_rule.specs.Orders.{log_of, entries_of, placed_by}
 use Rattle.pp_rule.specs.Views.{slot}
-use Rattle.pp_rule.specs.States.{RecordState, attached, owned, IsUsed}
+use Rattle.pp_rule.specs.States.{RecordState, owned, IsUsed}
 use Rattle.pp_rule.specs.Opening.{dealt, opening_words}
 use Rattle.pp_rule.specs.Laws.{Freezes, HeadsOpen, LinksOpen, MetAtOpening, KeptAlike, KeptCleared, KeptInvalid, Chained}
 use Rattle.pp_rule.specs.Laws.{MayDetach, KeptDetached}
@@ -25,7 +25,7 @@ use Rattle.pp_queues.specs.declared.calls.QueueChange.{QueueChange}
 use Rattle.pp_queues.specs.declared.calls.QueuePlaced.{QueuePlaced}
 use Rattle.pp_queues.specs.declared.own.QueueOwn.{QueueOwn}
 use Rattle.pp_queues.specs.Queue.{items_of, IsSound}
-use Rattle.pp_queues.specs.Lines.{Heap, heap, Lined}
+use Rattle.pp_queues.specs.Lines.{heap, Lined}
 use Rattle.pp_queues.specs.Queues.{QueuePass, QueueStep, Calls, Queues, queue_frozen, queue_forget, nobody, queue_chain}
 use Rattle.pp_queues.specs.Queues.{NeverDetaches, queue_head, queue_field}
 use Rattle.pp_queues.specs.Contents.{queue_caller}

@@ -1,7 +1,7 @@
 -- The loads of the calls on a queue: that the rule allows them, with what they tell.
-use Rattle.std.proofs.Common.{◌≡◌, ◌≢◌, ◌⊎◌, inl, inr, ⊎_elim, ℕ, zero, suc, ◌+◌, ◌*◌, ◌-◌, ◌<◌, ◌≤◌, Bool, true, false}
+use Rattle.std.proofs.Common.{◌≡◌, ◌≢◌, inl, inr, ⊎_elim, ℕ, zero, suc, ◌+◌, ◌*◌, ◌-◌, ◌<◌, ◌≤◌, Bool, true, false}
 use Rattle.std.proofs.Common.{cond, eqb}
-use Rattle.std.proofs.Common.{List, [], ◌∷◌, ◌++◌, length, get_or, set, sym, refl, ap, ◌∙◌, subst, arith, append-nil}
+use Rattle.std.proofs.Common.{List, [], ◌∷◌, ◌++◌, length, get_or, sym, refl, ap, ◌∙◌, subst, arith, append-nil}
 use Rattle.std.proofs.Common.{eq-eqb, ne_eqb}
 use Rattle.std.proofs.Math.Bool.{false≢true}
 use Rattle.std.proofs.Math.Decide.{ℕ_discrete}
@@ -19,23 +19,22 @@ use Rattle.pp_rule.specs.States.{attached, IsUsed, Held}
 use Rattle.pp_rule.specs.Rule.{Base}
 use Rattle.pp_rule.specs.Ties.{Holds}
 use Rattle.pp_rule.specs.Changes.{SameBase}
-use Rattle.pp_rule.specs.Steps.{entry, alone, IsAlone, MadeStep, MadeQuietStep, IsSource, holding}
+use Rattle.pp_rule.specs.Steps.{entry, IsAlone, MadeStep, MadeQuietStep, IsSource, holding}
 use Rattle.pp_rule.specs.Laws.{KeptAlike}
 use Rattle.pp_rule.proofs.Put.{put, put_each}
-use Rattle.pp_rule.proofs.Slots.{WalkSet, slot_here, slot_else}
+use Rattle.pp_rule.proofs.Slots.{WalkSet, slot_here}
 use Rattle.pp_rule.proofs.Histories.{log_snoc, placed_here, placed_else}
-use Rattle.pp_rule.proofs.Stepping.{after_step, KeepsRule, Plays, allows, allows_by}
+use Rattle.pp_rule.proofs.Stepping.{after_step, Plays, allows, allows_by}
 use Rattle.pp_rule.proofs.Sources.{source_sound}
 use Rattle.pp_rule.proofs.Keeping.{load_keeps, idle_keeps, base_idle}
 use Rattle.pp_rule.proofs.Confirming.{base_confirmed}
 use Rattle.pp_queues.specs.declared.calls.QueueCall.TheVariants as call
 use Rattle.pp_queues.specs.declared.calls.QueueReply.TheVariants as said
-use Rattle.pp_queues.specs.declared.calls.QueueReply.{QueueReply}
 use Rattle.pp_queues.specs.declared.calls.QueueChange.{QueueChange}
 use Rattle.pp_queues.specs.declared.calls.QueuePlaced.{QueuePlaced}
 use Rattle.pp_queues.specs.declared.own.QueueOwn.{QueueOwn}
 use Rattle.pp_model.specs.Objects.{after}
-use Rattle.pp_queues.specs.Queue.{queue, reply, placed, items_of, IsSound, StandsIn}
+use Rattle.pp_queues.specs.Queue.{queue, reply, placed, items_of, IsSound}
 use Rattle.pp_queues.specs.Lines.{Heap, heap, Lined, Stood, Sole}
 use Rattle.pp_queues.specs.Queues.{QueuePass, QueueState, QueueStep, QueueView, Calls, Queues}
 use Rattle.pp_queues.specs.Turns.{StandsThen, empty_step, with_own, stand, beginning, resting, leading, passed, IsLoaded}

@@ -1,5 +1,5 @@
 -- The exchange of head 1, and what all exchanges of a queue have in common.
-use Rattle.std.proofs.Common.{◌≡◌, ◌≢◌, ◌⊎◌, inl, inr, ⊎_elim, ℕ, ◌+◌, ◌*◌, ◌<◌, ◌≤◌, Bool, true, false, cond, eqb}
+use Rattle.std.proofs.Common.{◌≡◌, inr, ℕ, ◌*◌, ◌<◌, ◌≤◌, Bool, true, false, cond, eqb}
 use Rattle.std.proofs.Common.{List, [], ◌∷◌, ◌++◌, length, get_or, set, sym, refl, ap, ap₂, ◌∙◌, subst, arith, append-nil}
 use Rattle.std.proofs.Common.{eq-eqb, ne_eqb}
 use Rattle.std.proofs.Math.Bool.{false≢true}
@@ -8,20 +8,17 @@ use mathlib.Core.Logic.{dite}
 use prog.Atomic.{either}
 use Rattle.atomic_table.specs.Table.{Me, Allows}
 use Rattle.pp_link.specs.declared.layout.Sizes.{Sizes}
-use Rattle.pp_link.specs.Links.{target, invalid_bit}
-use Rattle.pp_link.specs.Places.{IsNumber, total, head_place, cell_place, IsWithin}
-use Rattle.pp_link.specs.Words.{head_word, cell_word}
+use Rattle.pp_link.specs.Links.{target}
+use Rattle.pp_link.specs.Places.{IsNumber, head_place, IsWithin}
 use Rattle.pp_link.proofs.Stores.{head_stored}
-use Rattle.pp_rule.specs.declared.views.WalkSlot.{WalkSlot}
-use Rattle.pp_rule.specs.Lists.{IsIn}
 use Rattle.pp_rule.specs.Orders.{only_loads, log_of, placed_by, goes_aside, missed_step}
 use Rattle.pp_rule.specs.Views.{halves, value_of, slot}
-use Rattle.pp_rule.specs.States.{RecordState, attached, IsUsed, IsSmall, Held, Leads, PoolState}
+use Rattle.pp_rule.specs.States.{RecordState, attached, IsUsed, Leads, PoolState}
 use Rattle.pp_rule.specs.Rule.{Base}
 use Rattle.pp_rule.specs.Detach.{IsFreeLink}
-use Rattle.pp_rule.specs.Changes.{SameBase, Relinks}
+use Rattle.pp_rule.specs.Changes.{Relinks}
 use Rattle.pp_rule.specs.Ties.{Holds}
-use Rattle.pp_rule.specs.Steps.{entry, IsAlone, MadeQuietStep}
+use Rattle.pp_rule.specs.Steps.{entry, IsAlone}
 use Rattle.pp_rule.proofs.Put.{in_nil}
 use Rattle.pp_rule.proofs.Histories.{placed_here}
 use Rattle.pp_rule.proofs.Stepping.{after_step, Plays, allows_by}
@@ -29,13 +26,12 @@ use Rattle.pp_rule.proofs.Keeping.{idle_keeps}
 use Rattle.pp_rule.proofs.Relinking.{base_relinked}
 use Rattle.pp_queues.specs.declared.calls.QueueChange.{QueueChange}
 use Rattle.pp_queues.specs.declared.calls.QueuePlaced.{QueuePlaced}
-use Rattle.pp_queues.specs.declared.own.QueueOwn.{QueueOwn}
 use Rattle.pp_queues.specs.Queue.{items_of, IsSound}
 use Rattle.pp_queues.specs.Lines.{Heap, heap, Lined, Stood, Steady, Moved}
 use Rattle.pp_queues.specs.Queues.{QueuePass, QueueState, QueueStep, QueueView, Calls, Queues}
 use Rattle.pp_queues.specs.Turns.{advance_step, with_own, caught_up, stand, MayAdvance, Advanced}
 use Rattle.pp_queues.proofs.Lining.{moved_last, lined_moved, steady_moved, moved_to_end, leads_to}
-use Rattle.pp_queues.proofs.Keeping.{stood_on, any_word, SeenHeld, queues_changed}
+use Rattle.pp_queues.proofs.Keeping.{stood_on, any_word, queues_changed}
 use Rattle.pp_queues.proofs.Loading.{alike, calls_of, held_of, head_at, same_own_base}
 
 -- the word of a head may be exchanged

@@ -1,28 +1,26 @@
 -- The exchange that links a record behind the last one.
-use Rattle.std.proofs.Common.{◌≡◌, ◌≢◌, ◌⊎◌, inl, inr, ⊎_elim, ℕ, zero, suc, ◌+◌, ◌*◌, ◌%◌, ◌<◌, ◌≤◌, Bool, true, false}
+use Rattle.std.proofs.Common.{◌≡◌, inl, ℕ, zero, suc, ◌+◌, ◌%◌, ◌<◌, ◌≤◌, Bool, true, false}
 use Rattle.std.proofs.Common.{cond, eqb}
-use Rattle.std.proofs.Common.{List, [], ◌∷◌, ◌++◌, length, get_or, set, sym, refl, ap, ap₂, ◌∙◌, subst, arith, append-nil}
+use Rattle.std.proofs.Common.{List, [], ◌∷◌, ◌++◌, length, get_or, set, sym, refl, ap, ap₂, ◌∙◌, subst, arith}
 use Rattle.std.proofs.Common.{length-append}
 use Rattle.std.proofs.Common.{eq-eqb, ne_eqb}
 use Rattle.std.specs.Prelude.{slice_get}
 use Rattle.std.proofs.Math.Bool.{false≢true}
 use Rattle.std.proofs.Math.Decide.{ℕ_discrete}
 use mathlib.Core.Logic.{dite}
-use mathlib.Core.Option.{some}
 use lib.ListN.{get_elem?}
 use prog.Atomic.{either}
 use Rattle.atomic_table.specs.Table.{Me, Allows}
 use Rattle.pp_link.specs.declared.layout.Sizes.{Sizes}
-use Rattle.pp_link.specs.Links.{target, invalid_bit}
-use Rattle.pp_link.specs.Places.{IsNumber, total, cell_place}
-use Rattle.pp_link.specs.Words.{head_word, cell_word}
+use Rattle.pp_link.specs.Links.{target}
+use Rattle.pp_link.specs.Places.{IsNumber, cell_place}
+use Rattle.pp_link.specs.Words.{cell_word}
 use Rattle.pp_link.proofs.Stores.{cell_stored}
 use Rattle.pp_model.specs.Lists.{AtEach}
 use Rattle.pp_rule.specs.declared.views.PrivateRecord.{PrivateRecord}
-use Rattle.pp_rule.specs.Lists.{IsIn}
 use Rattle.pp_rule.specs.Orders.{only_loads, log_of, placed_by, goes_aside, missed_step}
 use Rattle.pp_rule.specs.Views.{halves, value_of, slot}
-use Rattle.pp_rule.specs.States.{RecordState, attached, owned, IsUsed, IsFrozen, Stays, Held, Leads}
+use Rattle.pp_rule.specs.States.{RecordState, attached, owned, IsUsed, Held, Leads}
 use Rattle.pp_rule.specs.Rule.{Base, Reads}
 use Rattle.pp_rule.specs.Detach.{IsFreeLink}
 use Rattle.pp_rule.specs.Ties.{Holds}
@@ -38,12 +36,12 @@ use Rattle.pp_queues.specs.declared.calls.QueueCall.TheVariants as call
 use Rattle.pp_queues.specs.declared.calls.QueueReply.TheVariants as said
 use Rattle.pp_queues.specs.declared.calls.QueueChange.{QueueChange}
 use Rattle.pp_queues.specs.declared.calls.QueuePlaced.{QueuePlaced}
-use Rattle.pp_queues.specs.Queue.{queue, items_of, IsSound, StandsIn, change_of, placed}
+use Rattle.pp_queues.specs.Queue.{queue, items_of, StandsIn, change_of, placed}
 use Rattle.pp_queues.specs.Lines.{Heap, heap, Lined, Stood, Steady, Appended}
-use Rattle.pp_queues.specs.Queues.{QueuePass, QueueState, QueueStep, QueueView, Calls, Queues}
-use Rattle.pp_queues.specs.Turns.{StandsThen, put_step, stand, change_at, placed_at, MayLink, linked, Linked}
+use Rattle.pp_queues.specs.Queues.{QueuePass, QueueState, QueueStep, QueueView, Queues}
+use Rattle.pp_queues.specs.Turns.{StandsThen, put_step, stand, placed_at, MayLink, linked, Linked}
 use Rattle.pp_model.proofs.Logs.{stands_change, sound_change, contents_push}
-use Rattle.pp_queues.proofs.Lining.{at_more, lined_appended, steady_appended, n_attached, leads_to}
+use Rattle.pp_queues.proofs.Lining.{at_more, lined_appended, steady_appended, leads_to}
 use Rattle.pp_queues.proofs.Keeping.{queues_changed}
 use Rattle.pp_queues.proofs.Loading.{alike, calls_of, held_of, link_at}
 use Rattle.pp_queues.proofs.Moving.{stood_after}

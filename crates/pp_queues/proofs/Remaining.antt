@@ -1,5 +1,5 @@
 -- The placed calls of a pass stand across steps at which nothing took effect.
-use Rattle.std.proofs.Common.{◌≡◌, ℕ, zero, suc, ◌+◌, ◌<◌, Bool, true, false, cond, eqb, List, [], ◌∷◌, ◌++◌, length, Some}
+use Rattle.std.proofs.Common.{◌≡◌, ℕ, zero, suc, ◌+◌, Bool, true, false, cond, eqb, List, [], ◌∷◌, ◌++◌, length, Some}
 use Rattle.std.proofs.Common.{refl, sym, ap, ◌∙◌}
 use Rattle.std.proofs.Common.{subst, append-nil, arith, length-append, eq-eqb}
 use Rattle.std.specs.Prelude.{slice_get}
@@ -7,16 +7,13 @@ use Rattle.std.proofs.lemmas.List.{nil_from_length}
 use Rattle.std.proofs.lemmas.Option.{slice_get_within}
 use Rattle.std.proofs.Math.Bool.{false≢true}
 use Rattle.pp_model.specs.Lists.{AtEach}
-use Rattle.pp_rule.specs.declared.views.LoggedStep.{LoggedStep}
-use Rattle.pp_rule.specs.declared.views.PassState.{PassState}
-use Rattle.pp_rule.specs.declared.views.SeatView.{SeatView}
 use Rattle.pp_rule.specs.Lists.{IsIn}
 use Rattle.pp_rule.specs.Orders.{log_of, made_by, placed_by, entries_of}
 use Rattle.pp_rule.specs.Steps.{MadeQuietStep, entry}
 use Rattle.pp_rule.proofs.Put.{in_first, in_later, in_left, in_right}
 use Rattle.pp_rule.proofs.Made.{known_after, seen_after_step, placed_after}
 use Rattle.pp_rule.proofs.Histories.{made_append, log_append}
-use Rattle.pp_calls.proofs.Growing.{in_slice, stepped_made}
+use Rattle.pp_calls.proofs.Growing.{in_slice}
 use Rattle.pp_queues.specs.declared.calls.QueueChange.{QueueChange}
 use Rattle.pp_queues.specs.declared.calls.QueuePlaced.{QueuePlaced}
 use Rattle.pp_queues.specs.Queue.{queue, StandsIn}

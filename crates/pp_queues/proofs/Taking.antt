@@ -1,6 +1,6 @@
 -- The exchange that takes the first value and detaches the dummy.
-use Rattle.std.proofs.Common.{◌≡◌, ◌≢◌, ◌⊎◌, inl, inr, ⊎_elim, ℕ, zero, suc, ◌+◌, ◌*◌, ◌<◌, ◌≤◌, Bool, true, false, cond, eqb}
-use Rattle.std.proofs.Common.{List, [], ◌∷◌, ◌++◌, length, get_or, set, sym, refl, ap, ap₂, ◌∙◌, subst, arith, append-nil}
+use Rattle.std.proofs.Common.{◌≡◌, ◌≢◌, inr, ℕ, zero, suc, ◌+◌, ◌*◌, ◌<◌, Bool, true, false, cond, eqb}
+use Rattle.std.proofs.Common.{List, [], ◌∷◌, ◌++◌, length, get_or, set, sym, refl, ap, ap₂, ◌∙◌, subst, arith}
 use Rattle.std.proofs.Common.{length-append}
 use Rattle.std.proofs.Common.{eq-eqb, ne_eqb}
 use Rattle.std.proofs.Math.Bool.{false≢true}
@@ -9,24 +9,23 @@ use mathlib.Core.Logic.{dite}
 use prog.Atomic.{either}
 use Rattle.atomic_table.specs.Table.{Me, Allows}
 use Rattle.pp_link.specs.declared.layout.Sizes.{Sizes}
-use Rattle.pp_link.specs.Links.{target, invalid_bit, flag_bit, leaf_bit}
-use Rattle.pp_link.specs.Places.{IsNumber, head_place, cell_place}
+use Rattle.pp_link.specs.Links.{target, flag_bit, leaf_bit}
+use Rattle.pp_link.specs.Places.{IsNumber, head_place}
 use Rattle.pp_link.specs.Words.{head_word, cell_word}
 use Rattle.pp_link.proofs.Stores.{head_stored}
 use Rattle.pp_rule.specs.declared.views.Chain.{Chain}
 use Rattle.pp_rule.specs.declared.views.ChainLink.{ChainLink}
-use Rattle.pp_rule.specs.Lists.{IsIn, Once}
+use Rattle.pp_rule.specs.Lists.{IsIn}
 use Rattle.pp_rule.specs.Orders.{only_loads, log_of, placed_by, goes_aside, missed_step}
 use Rattle.pp_rule.specs.Views.{halves, value_of, slot}
-use Rattle.pp_rule.specs.States.{RecordState, attached, in_hand, IsUsed, SameTarget, Held}
+use Rattle.pp_rule.specs.States.{RecordState, attached, in_hand, IsUsed, SameTarget}
 use Rattle.pp_rule.specs.Rule.{Base}
 use Rattle.pp_rule.specs.Detach.{Detaches}
 use Rattle.pp_rule.specs.Paths.{links_of}
-use Rattle.pp_rule.specs.Changes.{SameBase}
 use Rattle.pp_rule.specs.Ties.{Holds}
 use Rattle.pp_rule.specs.Steps.{entry, IsAlone, MadeStep, detaching}
 use Rattle.pp_rule.proofs.Put.{in_first, in_one, only}
-use Rattle.pp_rule.proofs.Chained.{put_all_in, put_all_out, in_or_out}
+use Rattle.pp_rule.proofs.Chained.{put_all_in, put_all_out}
 use Rattle.pp_rule.proofs.Histories.{placed_here}
 use Rattle.pp_rule.proofs.Stepping.{after_step, Plays, allows_by}
 use Rattle.pp_rule.proofs.Keeping.{idle_keeps}
@@ -36,12 +35,12 @@ use Rattle.pp_queues.specs.declared.calls.QueueReply.{QueueReply}
 use Rattle.pp_queues.specs.declared.calls.QueueReply.TheVariants as said
 use Rattle.pp_queues.specs.declared.calls.QueueChange.{QueueChange}
 use Rattle.pp_queues.specs.declared.calls.QueuePlaced.{QueuePlaced}
-use Rattle.pp_queues.specs.Queue.{queue, items_of, IsSound, StandsIn, change_of, placed, reply, next, changes}
+use Rattle.pp_queues.specs.Queue.{queue, items_of, StandsIn, change_of, placed, reply, next, changes}
 use Rattle.pp_queues.specs.Lines.{Heap, heap, Lined, Stood, Steady, Removed}
-use Rattle.pp_queues.specs.Queues.{QueuePass, QueueState, QueueStep, QueueView, Calls, Queues, dummy_chain}
-use Rattle.pp_queues.specs.Turns.{StandsThen, take_step, stand, resting, change_at, placed_at, MayTake, taken, Took}
+use Rattle.pp_queues.specs.Queues.{QueuePass, QueueState, QueueStep, QueueView, Queues, dummy_chain}
+use Rattle.pp_queues.specs.Turns.{StandsThen, take_step, stand, placed_at, MayTake, taken, Took}
 use Rattle.pp_model.proofs.Logs.{stands_change, sound_change, contents_push}
-use Rattle.pp_queues.proofs.Lining.{is_used, some_value, was_dummy, was_next, first_value, lined_removed, steady_removed}
+use Rattle.pp_queues.proofs.Lining.{first_value, lined_removed, steady_removed}
 use Rattle.pp_queues.proofs.Lining.{removed_back}
 use Rattle.pp_queues.proofs.Lining.{leads_to, times_once}
 use Rattle.pp_queues.proofs.Keeping.{queues_changed}

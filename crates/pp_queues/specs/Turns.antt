@@ -1,5 +1,5 @@
 -- What the steps of a queue's own kinds owe and tell.
-use Rattle.std.specs.Prelude.{◌≡◌, ◌≢◌, ◌⊎◌, ℕ, ◌+◌, ◌*◌, ◌<◌, ◌≤◌, Bool, true, false, cond, List, [], ◌∷◌, ◌++◌, length}
+use Rattle.std.specs.Prelude.{◌≡◌, ◌≢◌, ◌⊎◌, ℕ, ◌*◌, ◌<◌, ◌≤◌, Bool, true, false, [], ◌∷◌, length}
 use Rattle.std.specs.Prelude.{slice_set}
 use lib.ListN.{get_elem?}
 use mathlib.Core.Option.{some}

@@ -47,15 +47,15 @@ finished full lost way.Unwritten before after answers text is f l printed = absu
 finished full lost way.NoMemory before after answers text is f l printed = absurd is
 
 -- where there were calls, no read failed, and with a made trace nothing was read
-pub spared : (make : Option Make) (callers : ℕ) (before after : Device) (lists : List (List Call)) → HasCalls make callers before after lists
-    → WasSpared make before after
+pub spared : (make : Option Make) (callers : ℕ) (before after : Device) (lists : List (List Call))
+    → HasCalls make callers before after lists → WasSpared make before after
 spared None callers before after lists calls = record { unfailed = calls.unfailed; unread = λ m is. absurd cc }
 spared (Some make) callers before after lists calls =
     record { unfailed = ap (λ d. d.faults) calls.unread; unread = λ m is. calls.unread }
 
 -- lists that were read or made may be run
-pub may_run : (make : Option Make) (callers : ℕ) (before after : Device) (lists : List (List Call)) → HasCalls make callers before after lists
-    → AreCalls callers lists
+pub may_run : (make : Option Make) (callers : ℕ) (before after : Device) (lists : List (List Call))
+    → HasCalls make callers before after lists → AreCalls callers lists
 may_run None callers before after lists calls = record {
   each_caller = ap length calls.says.lists_are ∙ (length-map (upto 0 callers) _ ∙ length-upto 0 callers);
   keys = calls.says.keys;
@@ -77,11 +77,13 @@ no_memory words settings before after said_by quiet spared = record {
 }
 
 -- want of memory once there were calls
-pub refused : (words : List (List ℕ)) (settings : Settings) (lists : List (List Call)) (read now was : Device) (answers : List (List Answer))
-    (kept : Option RunView) (w : Way) → settings_of words ≡ Some settings → HasCalls settings.make settings.callers read now lists
+pub refused : (words : List (List ℕ)) (settings : Settings) (lists : List (List Call)) (read now was : Device)
+    (answers : List (List Answer)) (kept : Option RunView) (w : Way) → settings_of words ≡ Some settings
+    → HasCalls settings.make settings.callers read now lists
     → w ≡ way.NoMemory → Cause w words (world read was) (world now was) answers kept
 refused words settings lists read now was answers kept w said_by calls is =
-    rw is (no_memory words settings (world read was) (world now was) said_by refl (spared settings.make settings.callers read now lists calls))
+    rw is (no_memory words settings (world read was) (world now was) said_by refl
+    (spared settings.make settings.callers read now lists calls))
 
 module _ (words : List (List ℕ)) (settings : Settings) (lists : List (List Call)) (answers : List (List Answer)) (run : RunView)
     (read was now after : Device) (said_by : settings_of words ≡ Some settings)

@@ -25,7 +25,8 @@ module _ {K : Type 0} {written : K → Option (List ℕ)} {faults : K → ℕ} {
   -- a piece that broke off is the front of the whole
   pub Puts-short : (t whole rest : List ℕ) (e : Failed) → whole ≡ t ++ rest → Puts written faults Writes s0 s1 p0 p1 t (Err e)
       → Puts written faults Writes s0 s1 p0 p1 whole (Err e)
-  Puts-short t whole rest e same a = subst (λ (l : List ℕ). Puts written faults Writes s0 s1 p0 p1 l (Err e)) (sym same) (Puts-longer rest e a)
+  Puts-short t whole rest e same a =
+      subst (λ (l : List ℕ). Puts written faults Writes s0 s1 p0 p1 l (Err e)) (sym same) (Puts-longer rest e a)
 
   -- a printer that had nothing waiting and broke off printed a prefix
   pub printed_short : (text whole rest : List ℕ) (e : Failed) → p0.waits ≡ [] → whole ≡ text ++ rest
@@ -40,7 +41,8 @@ module _ {K : Type 0} {written : K → Option (List ℕ)} {faults : K → ℕ} {
 module _ {K : Type 0} {written : K → Option (List ℕ)} {faults : K → ℕ} {Writes : K → K → List ℕ → Result ℕ Failed → Type 0}
     {s0 s1 s2 : K} {p0 p1 : Waiting} where
   -- and one that wrote all that waits printed all
-  pub printed_all : (text left : List ℕ) (r : Result (Unit {0}) Failed) → p0.waits ≡ [] → Puts written faults Writes s0 s1 p0 p1 text (Ok tt)
+  pub printed_all : (text left : List ℕ) (r : Result (Unit {0}) Failed) → p0.waits ≡ []
+      → Puts written faults Writes s0 s1 p0 p1 text (Ok tt)
       → Printing (written s1) (written s2) p1.waits left [] r → OnOk r (left ≡ []) → HasCause (faults s1) (faults s2) r
       → IsPrinted (written s0) (faults s0) (written s2) (faults s2) text r
   printed_all text left (Ok u) none a b empty cause = (Appends-ended none a b empty, cause.kept ∙ a.cause.kept)

@@ -98,8 +98,8 @@ pub record IsRunUnder (settings : Settings) (lists : List (List Call)) (answers 
   -- no line is full where each caller's share is at least the records that its inserts need
   pub none_full : AtEach lists (λ c calls. (meaning_of settings.map).need * inserts calls ≤ share_of settings.map run.sizes c)
       → count_all is_full answers ≡ 0
-  -- no line of the plain map is lost
-  pub none_lost : settings.map ≡ kind.Plain → count_all is_lost answers ≡ 0
+  -- with one caller no line is lost
+  pub none_lost : settings.callers ≡ 1 → count_all is_lost answers ≡ 0
 
 -- The words say settings; the source, or the made trace, says each caller's calls; the run of the chosen map
 -- answered them; and the text is that of the answers and of the map after the whole log.

@@ -3,10 +3,11 @@
 use crate::replaying::{Devices, SOUND, replayed, words_of};
 use pp_outside::{MemSink, NoGate, StdSink, StdSource};
 use pp_replay::replay;
-use std::alloc::Global;
+use std::alloc::{AllocGlobal, Global};
 use std::collections::VecDeque;
 use std::fs;
 use std::test::Fail;
+use std::thread::Threads;
 
 const SMALL: &[u8] = b"0 insert 7 70\n0 get 7\n0 insert 7 71\n0 remove 7\n0 get 7\n";
 
@@ -141,6 +142,64 @@ fn a_line_about_an_error_is_cut_where_its_sink_fails(rt: HostRuntime) -> Result<
             );
             assert!(rt; told.starts_with(&got.errs), "{line}, write {number}");
         }
+    }
+    Ok(())
+}
+
+/// Whether a replay ends so, with nothing printed.
+fn ends<R: Threads + Sync + AllocGlobal>(
+    rt: &R,
+    line: &str,
+    trace: &[u8],
+    devices: &Devices,
+    status: u8,
+    errs: &[u8],
+) -> Result<bool, Fail> {
+    let got = replayed(rt, rt.alloc(), line, trace, devices, &NoGate)?;
+    Ok(got.status == status && got.sink.len() == 0 && got.errs.as_slice() == errs)
+}
+
+const UNREAD: Devices<'static> = Devices {
+    failing_reads: &[1],
+    failing_writes: &[1],
+    ..SOUND
+};
+
+const UNWRITTEN: Devices<'static> = Devices {
+    failing_writes: &[1],
+    ..SOUND
+};
+
+const FULL: &[u8] =
+    b"0 insert 1 1\n0 insert 2 2\n0 insert 3 3\n0 insert 4 4\n0 insert 5 5\n0 insert 6 6\n\
+    0 insert 7 7\n0 insert 8 8\n0 insert 9 9\n";
+
+/// Words before reading, reading before the trace, and writing last.
+#[test]
+fn the_first_of_two_causes_decides(rt: HostRuntime) -> Result<(), Fail> {
+    for line in MAPS {
+        let refused = format!(in rt.alloc(); "{line} --races 0")?;
+        let small = format!(in rt.alloc(); "{line} --records 8")?;
+        assert!(rt;
+            ends(&rt, &refused, b"0", &UNREAD, 1, b"words: refused\n")?,
+            "{line}"
+        );
+        assert!(rt;
+            ends(&rt, line, b"0", &UNREAD, 3, b"read: failed\n")?,
+            "{line}"
+        );
+        assert!(rt;
+            ends(&rt, line, b"0", &UNWRITTEN, 2, b"trace: line 1: word\n")?,
+            "{line}"
+        );
+        assert!(rt;
+            ends(&rt, &small, FULL, &UNWRITTEN, 4, b"write: failed\n")?,
+            "{line}"
+        );
+        assert!(rt;
+            ends(&rt, &small, FULL, &UNREAD, 3, b"read: failed\n")?,
+            "{line}"
+        );
     }
     Ok(())
 }

@@ -13,23 +13,26 @@ const NINE: &[u8] =
     b"0 insert 1 1\n0 insert 2 2\n0 insert 3 3\n0 insert 4 4\n0 insert 5 5\n0 insert 6 6\n0 insert 7 7\n0 insert 8 8\n0 insert 9 9\n";
 
 const NINE_OUT: &[u8] =
-    b"0 1 added\n0 2 added\n0 3 added\n0 4 added\n0 5 added\n0 6 added\n0 7 added\n0 8 added\n0 9 full\ncontents 8\n1 1\n2 2\n3 3\n4 4\n5 5\n6 6\n7 7\n8 8\n";
+    b"0 1 added\n0 2 added\n0 3 added\n0 4 added\n0 5 added\n0 6 added\n0 7 added\n0 8 added\n0 9 full\n\
+    contents 8\n1 1\n2 2\n3 3\n4 4\n5 5\n6 6\n7 7\n8 8\n";
 
 const SECOND_FORM: &[u8] =
     b"trace 2\n0 insert 7 340282366920938463463374607431768211455\n0 cut 7 1\n0 cut 7 340282366920938463463374607431768211455\n0 cut 7 1\n";
 
-const SECOND_FORM_OUT: &[u8] =
-    b"0 1 added\n0 2 other 340282366920938463463374607431768211455\n0 3 took 340282366920938463463374607431768211455\n0 4 absent\ncontents 0\n";
+const SECOND_FORM_OUT: &[u8] = b"0 1 added\n0 2 other 340282366920938463463374607431768211455\n\
+    0 3 took 340282366920938463463374607431768211455\n0 4 absent\ncontents 0\n";
 
 const MADE_OUT: &[u8] =
     b"made 2\nadded 1\nheld 0\nvalue 0\nabsent 1\ntook 0\nfull 0\nlost 0\ncontents 1\n";
 
 /// The last insert finds the record of the key that was removed, which its reclaim pass frees.
 const AGAIN: &[u8] =
-    b"0 insert 1 1\n0 insert 2 2\n0 insert 3 3\n0 insert 4 4\n0 insert 5 5\n0 insert 6 6\n0 insert 7 7\n0 insert 8 8\n0 insert 9 9\n0 remove 1\n0 insert 9 9\n";
+    b"0 insert 1 1\n0 insert 2 2\n0 insert 3 3\n0 insert 4 4\n0 insert 5 5\n0 insert 6 6\n0 insert 7 7\n0 insert 8 8\n\
+    0 insert 9 9\n0 remove 1\n0 insert 9 9\n";
 
 const AGAIN_OUT: &[u8] =
-    b"0 1 added\n0 2 added\n0 3 added\n0 4 added\n0 5 added\n0 6 added\n0 7 added\n0 8 added\n0 9 full\n0 10 took 1\n0 11 added\ncontents 8\n2 2\n3 3\n4 4\n5 5\n6 6\n7 7\n8 8\n9 9\n";
+    b"0 1 added\n0 2 added\n0 3 added\n0 4 added\n0 5 added\n0 6 added\n0 7 added\n0 8 added\n\
+    0 9 full\n0 10 took 1\n0 11 added\ncontents 8\n2 2\n3 3\n4 4\n5 5\n6 6\n7 7\n8 8\n9 9\n";
 
 #[test]
 fn the_plain_map_replays_as_worked_by_hand(rt: HostRuntime) -> Result<(), Fail> {

@@ -79,7 +79,8 @@ module _ {E A W : Type 0} (sides sentinels : ℕ) (head : ℕ → ℕ) (field : 
         once = once_from 1 sentinels;
         each = λ n i. let at = in_from 1 sentinels n i in let from = at.0 in let below = at.1 in (
           at.0,
-          reaches z (opening_words sentinels head field z) g n base added (at.0, omega arith) (opening_attached sentinels z n (omega arith)),
+          reaches z (opening_words sentinels head field z) g n base added (at.0, omega arith) (opening_attached sentinels z n
+              (omega arith)),
         );
         all = λ n some r. from_in 1 sentinels n some (let low = reached_low n r in omega arith);
       }

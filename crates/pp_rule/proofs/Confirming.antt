@@ -58,7 +58,11 @@ module _ {E A W : Type 0} (sides : ℕ) (z : Sizes) (words : List ℕ) (g : Pool
         value = held.value;
         learnt = λ l i. ⊎_elim
             (λ (e : l ≡ (side, word)). subst (λ (l : ℕ × ℕ). (l.0 < 2) × Keeps l.1 (cell_word words z w.named (2 + l.0))
-            × IsFrozen l.1) (sym e) (two, record { same = record { target_is = refl; flag_is = refl; leaf_is = refl }; tag = λ e. e }, frozen))
+            × IsFrozen l.1) (sym e) (
+              two,
+              record { same = record { target_is = refl; flag_is = refl; leaf_is = refl }; tag = λ e. e },
+              frozen,
+            ))
             (held.learnt l) (in_cases l (side, word) w.learnt i);
       })
       (λ on r m low left read. subst (λ (v : PassState W). (slot v i).held ≡ true → Unscanned z g.of q.number v i (slot v i).named) is

@@ -69,7 +69,8 @@ module _ {E A W : Type 0} (sides : ℕ) (z : Sizes) (words : List ℕ) (g : Pool
   stored = link_stored z words g place value b.wide d.place_is
 
   member_link : (n side : ℕ) → IsIn n c.records → side < sides → cell_word new z n (2 + side) ≡ cell_word words z n (2 + side)
-  member_link n side i lt = let most = b.two in stored.other_cell n (2 + side) (λ e. d.stays n (2 + side) (d.members n i).0 (omega arith) e i)
+  member_link n side i lt = let most = b.two in stored.other_cell n (2 + side) (λ e. d.stays n (2 + side) (d.members n i).0 (omega arith) e
+      i)
 
   hand_link : (n side r j : ℕ) → IsNumber z n → side < sides → g.status n ≡ in_hand r j
       → cell_word new z n (2 + side) ≡ cell_word words z n (2 + side)
@@ -112,7 +113,8 @@ module _ {E A W : Type 0} (sides : ℕ) (z : Sizes) (words : List ℕ) (g : Pool
 
   privates_now : PrivateWords z new g.of
   privates_now = record {
-    reads = λ r e low i. let his = b.numbers.owned_to r e low i in reads_after z words new e (λ f four. stored.unattached e.number f (owned r) his.0 four
+    reads = λ r e low i. let his = b.numbers.owned_to r e low i in reads_after z words new e (λ f four. stored.unattached e.number f
+        (owned r) his.0 four
         his.1 (λ (e : owned r ≡ attached). absurd cc))
         (b.privates.reads r e low i);
   }
@@ -367,7 +369,8 @@ module _ {E A W : Type 0} (sides : ℕ) (opens : Sizes → List ℕ) (addition :
       (λ n m'. (m'.1 ≡ []) × Exchanged (chain me.0.known.walk me.0.known.own guard first new) first new n place
       (learning_from sides z place frozen me.0.known source n) me.0 m'.0
       × (n ≡ first → IsChainTo sides guard (target first) (target new) (chain me.0.known.walk me.0.known.own guard first new)))
-  detaches_chain alike frozen freezes chain may_detach orders shows kept z slots id place guard first new me lone source may four names unused =
+  detaches_chain alike frozen freezes chain may_detach orders shows kept z slots id place guard first new me lone source may four names
+      unused =
       let q : PassState W = me.0.known in
       let c : Chain = chain q.walk q.own guard first new in
       let then : ℕ → Me Unit (SeatView E A W) → Type 0 = λ n m'. (m'.1 ≡ [])
@@ -384,7 +387,8 @@ module _ {E A W : Type 0} (sides : ℕ) (opens : Sizes → List ℕ) (addition :
       (λ e. subst (λ (hit : Bool). Plays sides opens addition (cond hit detach_step missed_step) place n (either hit new n) z words g me.0
       (then n))
       (sym (eq-eqb n first e))
-      (let d : Detaches sides z words g q c place (target new) new = shows z words g q place guard first new b add pass is may four names unused e in
+      (let d : Detaches sides z words g q c place (target new) new = shows z words g q place guard first new b add pass is may four names
+      unused e in
       let q' : PassState W = detaching c q in
       let status : ℕ → RecordState = detached_status sides z words g q c place (target new) new b pass is d in
       let s : LoggedStep E A = entry detach_step place n new [] [] g.order q' in

@@ -35,11 +35,21 @@ module _ (z : Sizes) where
 
   pub walk_content : (words : List ℕ) (place value p i : ℕ) → WalkStored z words (set words place value) p i value
       → SameContent z words (set words place value)
-  walk_content words place value p i s = record { wide = length-set words place value; shelves = s.shelves; heads = s.heads; cells = s.cells }
+  walk_content words place value p i s = record {
+    wide = length-set words place value;
+    shelves = s.shelves;
+    heads = s.heads;
+    cells = s.cells;
+  }
 
   pub frontier_content : (words : List ℕ) (place value p j : ℕ) → FrontierStored z words (set words place value) p j value
       → SameContent z words (set words place value)
-  frontier_content words place value p j s = record { wide = length-set words place value; shelves = s.shelves; heads = s.heads; cells = s.cells }
+  frontier_content words place value p j s = record {
+    wide = length-set words place value;
+    shelves = s.shelves;
+    heads = s.heads;
+    cells = s.cells;
+  }
 
   pub held_after : (old new : List ℕ) (status : ℕ → RecordState) (w : WalkSlot) → SameUsed z status old new → Held z old status w
       → Held z new status w

@@ -39,3 +39,4 @@ pub mod Learnt
 pub mod Reaching
 pub mod Owning
 pub mod OwnSteps
+pub mod Lone

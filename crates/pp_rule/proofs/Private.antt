@@ -105,7 +105,8 @@ module _ {E A W : Type 0} (sides : ℕ) (z : Sizes) where
               (subst (λ (v : PassState W). (slot v i).held ≡ true
               → Held z words g.status (slot v i)) is (b.hazards.held p i pass five) on));
           links = links_after z sides words new g.status b.two used
-              (λ n r j number hand. let scope = hand_scope sides z words g b n r j hand number in stored.frontiers r j scope.0 scope.1) b.links;
+              (λ n r j number hand. let scope = hand_scope sides z words g b n r j hand number in stored.frontiers r j scope.0 scope.1)
+              b.links;
           shelves = shelves_after z words new g.status (shelf_scope sides z words g b) stored.shelves b.shelves;
           chains = chains_after z g.of p q' sides words new g.status b.two used (ap (λ v. v.chains) (sym is)) b.chains;
           scans = scans_after z g.of p q' sides words new g.status b.two used (ap (λ v. v.scan) (sym is))

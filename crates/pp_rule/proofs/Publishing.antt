@@ -143,7 +143,8 @@ module _ {E A W : Type 0} (sides : ℕ) (z : Sizes) (words : List ℕ) (g : Pool
   privates_now : PrivateWords z new passes
   privates_now = record {
     reads = λ r e low mine. let old = was_owned r e low mine in let was = b.numbers.owned_to r e low old.0 in
-        reads_after z words new e (λ f four. stored.unattached e.number f (owned r) was.0 four was.1 (λ (e : owned r ≡ attached). absurd cc))
+        reads_after z words new e (λ f four. stored.unattached e.number f (owned r) was.0 four was.1 (λ (e : owned r ≡ attached). absurd
+        cc))
         (b.privates.reads r e low old.0);
   }
 
@@ -255,21 +256,22 @@ module _ {E A W : Type 0} (sides : ℕ) (z : Sizes) (words : List ℕ) (g : Pool
       }
 
   chains_now : Chains sides z new passes states
-  chains_now = chains_after z g.of q.number q' sides new new states b.two same_used (gives.rest.chains ∙ ap (λ v. v.chains) (sym is)) record {
-    guard = b.chains.guard;
-    once = b.chains.once;
-    members = λ r n c low mine member. let was = b.chains.members r n c low mine member in
-        (was.0, stays_state n (in_hand r c.guard) was.1 (λ (e : in_hand r c.guard ≡ owned q.number). absurd cc));
-    members_once = b.chains.members_once;
-    home = λ r j n low number state. b.chains.home r j n low number
-        (was_state n (in_hand r j) state (λ (e : in_hand r j ≡ attached). absurd cc)).1;
-    valid = λ r n side c low mine member lt. let was = b.chains.members r n c low mine member in
-        subst (λ (w : ℕ). (invalid_bit w ≡ 1) ⊎ IsIn (n, side) c.valid) (sym (hand_link n side r c.guard was.0 lt was.1))
-        (b.chains.valid r n side c low mine member lt);
-    links = λ r c l low mine link. let was = b.chains.links r c l low mine link in
-        let m = b.chains.members r l.number c low mine was.0 in
-        (was.0, was.1, subst (SameTarget l.word) (sym (hand_link l.number l.side r c.guard m.0 was.1 m.1)) was.2);
-  }
+  chains_now = chains_after z g.of q.number q' sides new new states b.two same_used (gives.rest.chains ∙ ap (λ v. v.chains) (sym is))
+      record {
+        guard = b.chains.guard;
+        once = b.chains.once;
+        members = λ r n c low mine member. let was = b.chains.members r n c low mine member in
+            (was.0, stays_state n (in_hand r c.guard) was.1 (λ (e : in_hand r c.guard ≡ owned q.number). absurd cc));
+        members_once = b.chains.members_once;
+        home = λ r j n low number state. b.chains.home r j n low number
+            (was_state n (in_hand r j) state (λ (e : in_hand r j ≡ attached). absurd cc)).1;
+        valid = λ r n side c low mine member lt. let was = b.chains.members r n c low mine member in
+            subst (λ (w : ℕ). (invalid_bit w ≡ 1) ⊎ IsIn (n, side) c.valid) (sym (hand_link n side r c.guard was.0 lt was.1))
+            (b.chains.valid r n side c low mine member lt);
+        links = λ r c l low mine link. let was = b.chains.links r c l low mine link in
+            let m = b.chains.members r l.number c low mine was.0 in
+            (was.0, was.1, subst (SameTarget l.word) (sym (hand_link l.number l.side r c.guard m.0 was.1 m.1)) was.2);
+      }
 
   scans_now : Scans sides z new passes states
   scans_now = scans_after z g.of q.number q' sides new new states b.two same_used (gives.rest.scan ∙ ap (λ v. v.scan) (sym is))

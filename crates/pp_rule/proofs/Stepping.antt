@@ -152,7 +152,8 @@ module _ {E A : Type 0} where
       (snoc_split xs before after e s rest)
 
   -- one step more
-  pub aside_after : (sides : ℕ) (z : Sizes) (opens : List ℕ) (order : List (LoggedStep E A)) (e : LoggedStep E A) → GoAside sides z opens order
+  pub aside_after : (sides : ℕ) (z : Sizes) (opens : List ℕ) (order : List (LoggedStep E A)) (e : LoggedStep E A) → GoAside sides z opens
+      order
       → (goes_aside e.entry.step.kind ≡ true → IsAside sides z (replayed opens (entries_of order)) e.entry.step.place)
       → GoAside sides z opens (order ++ e ∷ [])
   aside_after sides z opens order e was last before after s is kind = ⊎_elim
@@ -231,7 +232,8 @@ module _ {E A W : Type 0} (sides : ℕ) (opens : Sizes → List ℕ) (addition :
           runs = runs_after (opens z) s.words g.order did.known (kind n) place (noted n) (change n) did.changes did.placed h.runs
               (found n) (λ is. (stored n (stores_aside (kind n) is)).0 is) (kept n);
           aside = aside_after sides z (opens z) g.order e h.aside
-              (λ is. aside_reached sides z s.words g h.base h.runs (e.entry.step.place) ((stored n is).1 s.words g h.base mine.number mine.is));
+              (λ is. aside_reached sides z s.words g h.base h.runs (e.entry.step.place) ((stored n is).1 s.words g h.base mine.number
+              mine.is));
           base = did.keeps_rule.base;
           added = did.keeps_rule.added;
         },

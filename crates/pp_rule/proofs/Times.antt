@@ -44,10 +44,12 @@ drop_times : (x n : ℕ) (ys : List ℕ) → 1 ≤ times x ys → times n ys ≡
 unfolding times
 drop_times x n [] present = absurd (omega arith)
 drop_times x n (y ∷ ys) present = dite (ℕ_discrete y x)
-    (λ same. subst (λ (b : Bool). cond (eqb y n) (suc (times n ys)) (times n ys) ≡ times n (cond b ys (y ∷ drop_one x ys)) + cond (eqb x n) 1 0)
+    (λ same. subst (λ (b : Bool). cond (eqb y n) (suc (times n ys)) (times n ys) ≡ times n (cond b ys (y ∷ drop_one x ys)) + cond (eqb x n)
+    1 0)
     (sym (eq-eqb y x same)) (subst (λ (k : ℕ). cond (eqb k n) (suc (times n ys)) (times n ys) ≡ times n ys + cond (eqb x n) 1 0) (sym same)
     (here (eqb x n))))
-    (λ other. subst (λ (b : Bool). cond (eqb y n) (suc (times n ys)) (times n ys) ≡ times n (cond b ys (y ∷ drop_one x ys)) + cond (eqb x n) 1 0)
+    (λ other. subst (λ (b : Bool). cond (eqb y n) (suc (times n ys)) (times n ys) ≡ times n (cond b ys (y ∷ drop_one x ys)) + cond (eqb x n)
+    1 0)
     (sym (ne_eqb y x other)) (later
     (drop_times x n ys (subst (λ (b : Bool). 1 ≤ cond b (suc (times x ys)) (times x ys)) (ne_eqb y x other) present))
     (eqb y n)))

@@ -98,7 +98,8 @@ module _ {E A : Type 0} (sides : ℕ) (two : sides ≤ 2) (caller : E → ℕ) (
           (set (replayed opens (entries_of before)) s.entry.step.place s.entry.left)
       by true is = set_aside sides z (replayed opens (entries_of before)) s.entry.step.place s.entry.left (run.aside before after s refl is)
       by false is = let words : List ℕ = replayed opens (entries_of before) in
-          let loads : only_loads s.entry.step.kind ≡ true = or_first (only_loads s.entry.step.kind) (goes_aside s.entry.step.kind) calm is in
+          let loads : only_loads s.entry.step.kind ≡ true = or_first (only_loads s.entry.step.kind) (goes_aside s.entry.step.kind) calm is
+          in
           let silent : stores s.entry.step.kind ≡ false = or_none (stores s.entry.step.kind) _ _ _ is in
           let found : s.entry.step.word ≡ get_or words s.entry.step.place 0 = (run.finds before after s refl).found silent in
           let left : s.entry.left ≡ get_or words s.entry.step.place 0 = run.kept s here loads ∙ found in
@@ -123,7 +124,8 @@ module _ {E A : Type 0} (sides : ℕ) (two : sides ≤ 2) (caller : E → ℕ) (
 
 -- what a pass names of its own steps, in a pool of one pass, is all that was made
 all_own : {E A : Type 0} (passes p : ℕ) (order : List (LoggedStep E A)) → passes ≡ 1 → p < passes
-    → ((s : LoggedStep E A) → IsIn s order → s.entry.pass < passes) → (s : LoggedStep E A) → IsIn s order → IsIn s.entry.step (made_by p order)
+    → ((s : LoggedStep E A) → IsIn s order → s.entry.pass < passes) → (s : LoggedStep E A) → IsIn s order
+    → IsIn s.entry.step (made_by p order)
 unfolding made_by entries_of
 all_own passes p [] one low made s i = absurd (in_nil s i)
 all_own {E} {A} passes p (x ∷ order) one low made s i =
@@ -185,7 +187,7 @@ entry_of_step {E} {A} p (x ∷ order) s i = by (eqb x.entry.pass p) i (entry_of_
     by false j rest = later (rest j)
 
 -- what begins a run is one
-run_front : {E A : Type 0} (sides : ℕ) (caller : E → ℕ) (opens : List ℕ) (z : Sizes) (xs ys : List (LoggedStep E A))
+pub run_front : {E A : Type 0} (sides : ℕ) (caller : E → ℕ) (opens : List ℕ) (z : Sizes) (xs ys : List (LoggedStep E A))
     → IsRun sides caller opens z (xs ++ ys) → IsRun sides caller opens z xs
 run_front {E} {A} sides caller opens z xs ys run = record {
   finds = λ before after s is. run.finds before (after ++ ys) s (on before after s is);
@@ -213,7 +215,8 @@ module _ {E A W : Type 0} (sides : ℕ) (two : sides ≤ 2) (caller : E → ℕ)
   calm_finds p v w steps one low run begins made calm s i silent =
       let rest : List (LoggedStep E A) = begins.0 in
       let split : w.order ≡ v.order ++ rest = begins.1 in
-      let run_all : IsRun sides caller opens z (v.order ++ rest) = subst (λ (o : List (LoggedStep E A)). IsRun sides caller opens z o) split run in
+      let run_all : IsRun sides caller opens z (v.order ++ rest) = subst (λ (o : List (LoggedStep E A)). IsRun sides caller opens z o) split
+      run in
       let mine : made_by p rest ≡ steps = append_cancel_left (made_by p v.order) (made_by p rest) steps
       (sym (ap (made_by p) split ∙ made_append p v.order rest) ∙ made) in
       let e = entry_of_step p rest s (subst (λ (l : List Step). IsIn s l) (sym mine) i) in
@@ -226,7 +229,8 @@ module _ {E A W : Type 0} (sides : ℕ) (two : sides ≤ 2) (caller : E → ℕ)
       let found = (run_all.finds (v.order ++ first) parts.1.0 e.0 whole).found
       (subst (λ (t : Step). stores t.kind ≡ false) (sym e.1.1) silent) in record {
         then = replayed opens (entries_of (v.order ++ first));
-        same = all_stay sides two caller opens z v.order first front (λ t j. calm t.entry.step (subst (λ (l : List Step). IsIn t.entry.step l) mine
+        same = all_stay sides two caller opens z v.order first front
+            (λ t j. calm t.entry.step (subst (λ (l : List Step). IsIn t.entry.step l) mine
             (all_own z.passes p rest one low (λ x k. run_all.made x (in_right x v.order rest k)) t
             (subst (λ (l : List (LoggedStep E A)). IsIn t l) (sym parts.1.1) (in_left t first (e.0 ∷ parts.1.0) j)))));
         found = subst (λ (t : Step). t.word ≡ get_or (replayed opens (entries_of (v.order ++ first))) t.place 0) e.1.1 found;

@@ -23,7 +23,16 @@ use Rattle.pp_rule.proofs.Keeping.{hand_scope, base_after, was_unscanned, looks_
 
 module _ {W : Type 0} where
   pub walk_set : (i : ℕ) (w : WalkSlot) (q : PassState W) → WalkSet i w q (with_walk i w q)
-  walk_set i w q = record { number = refl; sizes = refl; owned = refl; retired_are = refl; frontier = refl; chains = refl; scan = refl; walk = refl }
+  walk_set i w q = record {
+    number = refl;
+    sizes = refl;
+    owned = refl;
+    retired_are = refl;
+    frontier = refl;
+    chains = refl;
+    scan = refl;
+    walk = refl;
+  }
 
 module _ {E A W : Type 0} (sides : ℕ) (z : Sizes) where
   -- The walk word i of a pass reads as the slot w, and every other hazard word as it was. Where w is held, the record meets
@@ -42,7 +51,11 @@ module _ {E A W : Type 0} (sides : ℕ) (z : Sizes) where
       let used = content_used z g.status words new content in
       let five : length q.walk ≡ 5 = b.hazards.five p low in
       let deep : i < length q.walk = omega arith in
-      base_after sides z words new g q' s b content low record { owned = is_set.owned; retired_are = is_set.retired_are; chains = is_set.chains }
+      base_after sides z words new g q' s b content low record {
+        owned = is_set.owned;
+        retired_are = is_set.retired_are;
+        chains = is_set.chains;
+      }
       (λ n r j number hand. let scope = hand_scope sides z words g b n r j hand number in fronts r j scope.0 scope.1)
       (hazards_after z g.of p q' words new g.status used b.hazards (five_after q q' i w is_set.walk five)
       (ap (λ (l : List ℕ). length l) is_set.frontier ∙ b.hazards.four p low)

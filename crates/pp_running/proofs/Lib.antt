@@ -2,3 +2,4 @@ pub mod Lists
 pub mod Runs
 pub mod RunJobs
 pub mod Numbers
+pub mod Callers

@@ -39,7 +39,8 @@ module _ {W : Type 0} where
           (subst (λ (s : WalkSlot). Grown (slot q i) s)
           (sym (slot_here q (with_walk i more q) i more refl (subst (λ (n : ℕ). i < n) (sym five) readable.0)))
           (record { held = refl; named = refl; learnt = λ l m. (suc m.0, m.1) })))
-          (λ ne. subst (λ (s : WalkSlot). Grown (slot q j) s) (sym (slot_else q (with_walk i more q) i more refl j ne)) (grown_same (slot q j)))
+          (λ ne. subst (λ (s : WalkSlot). Grown (slot q j) s) (sym (slot_else q (with_walk i more q) i more refl j ne))
+          (grown_same (slot q j)))
 
   -- a record is held in one more walk word
   pub grown_held : (sides : ℕ) (z : Sizes) (frozen : ℕ → Bool) (at : Place) (side : Side) (i word : ℕ) (w : WalkSlot) (q q' : PassState W)

@@ -215,4 +215,4 @@ turn_advances meaning sizes races c told v w t own in_call =
         → Effects t.going.struck t.now.struck t.ready w.pass
     by_leaves (on doing answers counted) e = on_effect meaning sizes t.going t.now t.before t.ready w.pass t.turn e counted
     by_leaves (done answer doing answers is made) e =
-        done_effect meaning sizes t.going t.now t.before t.ready w.pass t.turn e answer is made.says
+        done_effect meaning sizes t.going t.now t.before t.ready w.pass t.turn e answer is made.told.says

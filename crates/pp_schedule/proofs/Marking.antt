@@ -174,7 +174,8 @@ module _ (meaning : Meaning) (sizes : MapSizes) (races : ℕ) (log : List Change
 
     first_seen : m ≡ n → (y : Step) (zs : List Step) → steps_since t.ready w.pass ≡ y ∷ zs → y.seen ≡ n
     first_seen still y zs at =
-        let so = first_saw t.ready w.pass 0 t.turn.grew (omega (arith, ap length at)) (omega (arith, heard, ready_within, still, after_is)) in
+        let so = first_saw t.ready w.pass 0 t.turn.grew (omega (arith, ap length at)) (omega (arith, heard, ready_within, still, after_is))
+        in
         sym (ap (seen_first 0) at) ∙ so ∙ omega (arith, heard, ready_within, still)
 
     found_by : Has races v t.going t.before w.calls → Found
@@ -209,7 +210,8 @@ module _ (meaning : Meaning) (sizes : MapSizes) (races : ℕ) (log : List Change
           taken = λ so. absurd (true≢false (sym so ∙ begun.untouched));
           began = λ e not.
               let still = still_count e in
-              let since : steps_since t.before w.pass ≡ steps_since t.ready w.pass = ap (λ (xs : List Step). drop (length xs) w.pass.steps) own in
+              let since : steps_since t.before w.pass ≡ steps_since t.ready w.pass = ap (λ (xs : List Step). drop (length xs) w.pass.steps)
+              own in
               subst (λ (xs : List Step). Began many m w.mark (length t.before.seen) xs) (sym since)
               (began_first many n m w.mark (length t.before.seen) (steps_since t.ready w.pass) (mark_first idle) still (first_seen still)
               (⊎_elim
@@ -301,18 +303,19 @@ module _ (meaning : Meaning) (sizes : MapSizes) (races : ℕ) (log : List Change
     answered : (answer : Answer) → is ≡ took_effect answer → AnswersCall meaning sizes t.going.call t.going.budget t.before w.pass answer
         → MarkedAs log (found.made ++ t.going.call ∷ []) (v.answers ++ answer ∷ []) (v.marks ++ w.mark ∷ []) w.pass.mine
     answered (Said r) is_so made =
-        let says = made.says in
+        let says = made.told.says in
         subst (λ (ms : List Placed). MarkedAs log (found.made ++ t.going.call ∷ []) (v.answers ++ Said r ∷ []) (v.marks ++ w.mark ∷ []) ms)
         (sym says.mine)
         (push_said log found.made v.answers v.marks t.before.mine t.going.call r w.mark (placed t.going.call r says.place) found.marked
-        (said_place r is_so says made.stands))
+        (said_place r is_so says made.told.stands))
     answered Full is_so made =
         subst (λ (ms : List Placed). MarkedAs log (found.made ++ t.going.call ∷ []) (v.answers ++ Full ∷ []) (v.marks ++ w.mark ∷ []) ms)
-        (sym made.says.mine) (push_other log found.made v.answers v.marks t.before.mine t.going.call Full w.mark found.marked tt)
+        (sym made.told.says.mine) (push_other log found.made v.answers v.marks t.before.mine t.going.call Full w.mark found.marked tt)
     answered (Lost turns) is_so made =
         subst (λ (ms : List Placed). MarkedAs log (found.made ++ t.going.call ∷ []) (v.answers ++ Lost turns ∷ [])
         (v.marks ++ w.mark ∷ []) ms)
-        (sym made.says.mine) (push_other log found.made v.answers v.marks t.before.mine t.going.call (Lost turns) w.mark found.marked tt)
+        (sym made.told.says.mine) (push_other log found.made v.answers v.marks t.before.mine t.going.call (Lost turns) w.mark found.marked
+        tt)
 
     goes_now : Counted meaning sizes t.now t.before w.pass → GoingMark m (record { going = t.now; before = t.before }) w
     goes_now counted = record {

@@ -110,7 +110,7 @@ module _ {M P G N W : Type 0} (belongs : P → Type 0) (idle : P → Type 0) (un
         room_done : Leaves meaning sizes t.going t.now t.before v w → w.doing ≡ None → length w.calls + 1 ≤ t.before.room
             → length w.calls ≤ w.pass.room
         room_done (on is answers counted) none r = absurd (let e = sym is ∙ none in cc)
-        room_done (done answer is answers struck made) none r = omega (arith, r, made.grew.room)
+        room_done (done answer is answers struck made) none r = omega (arith, r, made.told.grew.room)
 
         room_on : Leaves meaning sizes t.going t.now t.before v w → (d : Doing) → w.doing ≡ Some d → length w.calls + 1 ≤ t.before.room
             → length w.calls + 1 ≤ d.before.room
@@ -146,7 +146,8 @@ module _ {M P G N W : Type 0} (belongs : P → Type 0) (idle : P → Type 0) (un
         → (t : Moment) × Move meaning sizes races s c t × (told' ≡ t.told) × (changes ≡ capped t.count)
         × AllSeen belongs idle under_way learnable view going_view this (set xs c x') t.callers
         × AllMayGoOn belongs idle under_way learnable view going_view this note' (set xs c x') t.callers
-    moved s c xs note note' told' x x' v w seen may is_x is_v calls capacity maps learns shows left answers marks mark turn noted count changes counted marked =
+    moved s c xs note note' told' x x' v w seen may is_x is_v calls capacity maps learns shows left answers marks mark turn noted count
+        changes counted marked =
         let within_x = slice_get_within xs c x is_x in
         let within_v = slice_get_within s.callers c v is_v in
         let was = seen.each c x v is_x is_v in

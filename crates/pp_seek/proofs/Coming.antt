@@ -1,11 +1,11 @@
 -- What the parts of a turn of a seek come to.
 use Rattle.std.proofs.Common.{◌≡◌, ◌≢◌, inl, inr, ⊎_elim, ℕ, ◌+◌, ◌*◌, ◌/◌, ◌%◌, ◌<◌, ◌≤◌, Bool, true, false, cond}
-use Rattle.std.proofs.Common.{List, [], ◌∷◌, ◌++◌, length, Option, Some}
+use Rattle.std.proofs.Common.{List, [], ◌∷◌, length, Option, Some}
 use Rattle.std.proofs.Common.{refl, sym, ap, ◌∙◌, subst, arith}
 use Rattle.std.specs.Prelude.{nat_lt}
 use Rattle.pp_link.specs.declared.layout.Sizes.{Sizes}
 use Rattle.pp_link.specs.declared.link.Link.{Link}
-use Rattle.pp_link.specs.Links.{bit, word_of, target, flag_bit, tag_bit, invalid_bit}
+use Rattle.pp_link.specs.Links.{bit, word_of, target, flag_bit, tag_bit, invalid_bit, leaf_bit}
 use Rattle.pp_link.specs.Places.{cell_place, head_place}
 use Rattle.pp_model.specs.Calls.{key_of}
 use Rattle.pp_rule.specs.Lists.{IsIn}
@@ -18,7 +18,6 @@ use Rattle.pp_rule.proofs.Slots.{slot_here, slot_else}
 use Rattle.pp_base.specs.declared.source.Side.{Side}
 use Rattle.pp_base.specs.Sources.{side_number}
 use Rattle.pp_base.specs.Named.{NamedStep, loads, announces, confirms}
-use Rattle.pp_base.proofs.Named.{plain_one}
 use Rattle.pp_trees.specs.declared.own.TreeOwn.{TreeOwn}
 use Rattle.pp_trees.specs.Trees.{side, IsEdge}
 use Rattle.pp_trees.specs.Searches.{TreePass}
@@ -51,6 +50,16 @@ tag_of l = go l.number (bit l.leaf) (bit l.invalid) (bit l.tag) (bit l.flag) (lo
     low false = omega arith
 
     go : (n l i t f : ℕ) → l ≤ 1 → i ≤ 1 → t ≤ 1 → f ≤ 1 → (16 * n + 8 * l + 4 * i + 2 * t + f) / 2 % 2 ≡ t
+    go n l i t f a b c d = omega arith
+
+pub leaf_of : (l : Link) → leaf_bit (word_of l) ≡ bit l.leaf
+leaf_of l = go l.number (bit l.leaf) (bit l.invalid) (bit l.tag) (bit l.flag) (low l.leaf) (low l.invalid) (low l.tag) (low l.flag)
+  where
+    low : (b : Bool) → bit b ≤ 1
+    low true = omega arith
+    low false = omega arith
+
+    go : (n l i t f : ℕ) → l ≤ 1 → i ≤ 1 → t ≤ 1 → f ≤ 1 → (16 * n + 8 * l + 4 * i + 2 * t + f) / 8 % 2 ≡ l
     go n l i t f a b c d = omega arith
 
 held_then : (a b c : WalkSlot) → SameHeld a b → c ≡ b → SameHeld a c

@@ -31,7 +31,7 @@ use Rattle.pp_seek.specs.declared.turn.Down.{Down}
 use Rattle.pp_seek.specs.declared.turn.Down.TheVariants as downs
 use Rattle.pp_seek.specs.Trails.{SameRest, Trail, Clears, reads}
 use Rattle.pp_seek.specs.Keeping.{IsOf}
-use Rattle.pp_seek.specs.Seeking.{words_by, words_of, IsAbove, Over, IsNear, Backs, LosesThere, SecondOther, MovesThere, EndedAt, Ends}
+use Rattle.pp_seek.specs.Seeking.{words_by, words_of, IsAbove, Over, IsNear, Backs, SecondOther, MovesThere, EndedAt, Ends}
 use Rattle.pp_seek.proofs.Trailing.{trail_none, trail_one, trail_both, front_cleared, rest_by}
 use Rattle.pp_seek.proofs.Letting.{call_by}
 use Rattle.pp_seek.proofs.Going.{word_used, go_after}
@@ -74,12 +74,12 @@ module _ (z : Sizes) (k : ℕ) (s : Spot) (n : Next) (second : ℕ) (v v1 v2 : T
   ended_back (downs.Came next) b = absurd b
   ended_back (downs.Ended sought) b = absurd b
 
-by_bool : {X : Type 0} (c : Bool) → (c ≡ false → X) → (c ≡ true → X) → X
+pub by_bool : {X : Type 0} (c : Bool) → (c ≡ false → X) → (c ≡ true → X) → X
 by_bool true a b = b refl
 by_bool false a b = a refl
 
 -- what the pass knows once its seek has ended
-ended_known : (i sd place first key : ℕ) (value : Halves) (v w : TreeView) → Ended i sd place first key value v w
+pub ended_known : (i sd place first key : ℕ) (value : Halves) (v w : TreeView) → Ended i sd place first key value v w
     → (going : Bool) × (w.known ≡ ended_pass i sd first key value going v.known)
 ended_known i sd place first key value v w t = by_bool v.known.own.going
     (λ off. (false, ap (λ (u : TreeView). u.known) (t.again off).made.is))

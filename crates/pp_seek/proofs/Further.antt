@@ -7,7 +7,6 @@ use Rattle.pp_link.specs.declared.layout.Sizes.{Sizes}
 use Rattle.pp_link.specs.Links.{bit, word_of, target, flag_bit, tag_bit, invalid_bit, leaf_bit}
 use Rattle.pp_link.specs.Places.{cell_place}
 use Rattle.pp_model.specs.Calls.{key_of}
-use Rattle.pp_rule.specs.Lists.{IsIn}
 use Rattle.pp_rule.specs.Orders.{confirm_step, read_step}
 use Rattle.pp_rule.specs.declared.views.Halves.{Halves}
 use Rattle.pp_rule.specs.declared.views.WalkSlot.{WalkSlot}
@@ -15,7 +14,6 @@ use Rattle.pp_rule.specs.Views.{slot}
 use Rattle.pp_rule.specs.Steps.{MadeQuietStep, holding}
 use Rattle.pp_rule.proofs.Slots.{slot_here, slot_else}
 use Rattle.pp_base.specs.Sources.{side_number}
-use Rattle.pp_base.proofs.Named.{plain_one}
 use Rattle.pp_trees.specs.declared.own.TreeOwn.{TreeOwn}
 use Rattle.pp_trees.specs.declared.own.Passed.{Passed}
 use Rattle.pp_trees.specs.Trees.{side, inf0, inf2}

@@ -17,7 +17,6 @@ use Rattle.pp_rule.specs.Views.{slot, naming}
 use Rattle.pp_rule.specs.Steps.{MadeQuietStep, with_walk, learning, holding, clearing}
 use Rattle.pp_rule.proofs.Put.{in_first}
 use Rattle.pp_rule.proofs.Slots.{slot_here, slot_else}
-use Rattle.pp_base.proofs.Named.{plain_one}
 use Rattle.pp_trees.specs.declared.own.TreeOwn.{TreeOwn}
 use Rattle.pp_trees.specs.Trees.{side, inf2}
 use Rattle.pp_trees.specs.TaggedPaths.{Joined}
@@ -28,12 +27,12 @@ use Rattle.pp_trees.specs.Seeks.{Begins, LooksAgain, at_root, ComesToRoot, PathE
 use Rattle.pp_seek.specs.declared.keeping.Words.{Words}
 use Rattle.pp_seek.specs.declared.seek.Above.{Above}
 use Rattle.pp_seek.specs.declared.seek.Spot.{Spot}
-use Rattle.pp_base.specs.Named.{NamedStep, loads, announces, confirms, clears}
+use Rattle.pp_base.specs.Named.{NamedStep, loads, announces, confirms}
 use Rattle.pp_seek.specs.Trails.{IsSilent, SameRest, Trail, Clears, IsEmpty, SameCall, reads}
 use Rattle.pp_seek.specs.Keeping.{IsOf, KeepsOnly}
 use Rattle.pp_seek.specs.Seeking.{words_by, words_of, Over, StandsBut, AtHead, LookedAtHead}
 use Rattle.pp_seek.specs.Seeking.{Enters, StaysThere, LetsAllGo}
-use Rattle.pp_seek.proofs.Trailing.{trail_one, trail_both, both_names, clears_one, rest_by}
+use Rattle.pp_seek.proofs.Trailing.{trail_one, trail_both, clears_one, rest_by}
 use Rattle.pp_seek.proofs.Letting.{forget_other, call_by, call_on}
 
 -- a quiet step on a word that is no link's, or a load

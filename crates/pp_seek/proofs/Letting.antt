@@ -10,8 +10,6 @@ use Rattle.pp_rule.specs.Steps.{MadeQuietStep, clearing}
 use Rattle.pp_rule.proofs.Slots.{slot_here, slot_else}
 use Rattle.pp_rule.proofs.Made.{known_after}
 use Rattle.pp_base.specs.Passes.{IsPassOf}
-use Rattle.pp_base.specs.Named.{clears}
-use Rattle.pp_base.proofs.Named.{plain_one}
 use Rattle.pp_hazard.proofs.Trying.{free_where_0}
 use Rattle.pp_trees.specs.declared.own.TreeOwn.{TreeOwn}
 use Rattle.pp_trees.specs.Searches.{TreePass, forget_word}

@@ -5,3 +5,11 @@ pub mod Going
 pub mod Coming
 pub mod Further
 pub mod Ending
+pub mod LoneCalm
+pub mod Lone
+pub mod LoneSpots
+pub mod LoneNear
+pub mod LoneComes
+pub mod LoneEnds
+pub mod LoneEnters
+pub mod LoneStays

@@ -1,3 +1,4 @@
 pub mod Trails
 pub mod Keeping
 pub mod Seeking
+pub mod Lone

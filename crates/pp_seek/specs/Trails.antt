@@ -14,7 +14,7 @@ reads place word = record { kind = read_step; place = place; word = word }
 
 -- a step that stores, exchanges or sets bits of no link
 abbrev pub IsSilent : ℕ → Type 0
-IsSilent kind = ((2 ≤ kind) × (kind < 9)) ⊎ (kind ≡ end_step)
+IsSilent kind = ((4 ≤ kind) × (kind < 9)) ⊎ (kind ≡ end_step)
 
 -- but for its walk words, and for what the tree knows of it, the pass is as it was
 pub record SameRest (q q' : TreePass) : Type 0 where

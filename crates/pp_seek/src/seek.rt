@@ -5,6 +5,7 @@ ghost use Rattle.pp_model.specs.Calls.{key_of};
 ghost use Rattle.pp_base.specs.Passes.{known, view, Fits, IsSame};
 ghost use Rattle.pp_seek.specs.Trails.{Clears};
 ghost use Rattle.pp_seek.specs.Seeking.{words_of, Seeks, Turned, LetsAllGo};
+ghost use Rattle.pp_seek.specs.Lone.{LoneSeek, LoneTurned};
 
 use crate::keeping::{Words, keep_only};
 use crate::turn::{Down, enter, go_down, key_of_call};
@@ -119,7 +120,8 @@ impl Seek {
 
     /// Makes one turn: from the head to the root, or over one edge. On: the seek stands at a further internal record, whose key
     /// lies between the bounds, so fewer keys are left. At: it ended at a leaf. Lost: the turn was lost. Where an edge
-    /// had become another one, the seek stays; else it stands at the head again, and its bounds are forgotten.
+    /// had become another one, the seek stays; else it stands at the head again, and its bounds are forgotten. A pass that is
+    /// alone on its pool loses no turn where no record that can be reached is removed, and both edges that it ends at stand.
     ///
     /// That a walk goes on through removed records until it meets one whose links can't be trusted any more is in outline the
     /// way of Jung, Lee, Kim and Kang ("Applying Hazard Pointers to More Concurrent Data Structures", 2023).
@@ -128,6 +130,8 @@ impl Seek {
         requires seeks { Seeks (known pass.old.seat) self.old }
         ensures same { IsSame pass.old.seat pass.new.seat }
         ensures turned { Turned pool.now.layout self.old self.new (view pass.old.seat) (view pass.new.seat) result }
+        ensures alone { LoneSeek pool.now.layout self.old.spot (view pass.old.seat)
+            → LoneTurned pool.now.layout self.new.spot (view pass.new.seat) result }
         ensures call { self.new.call ≡ self.old.call }
         ensures begun { self.new.fresh ≡ false }
         ensures purse { pass.new.purse ≡ pass.old.purse }

@@ -6,8 +6,11 @@ ghost use Rattle.pp_model.specs.Calls.{key_of};
 ghost use Rattle.pp_base.specs.Passes.{known, view, Fits, IsSame};
 ghost use Rattle.pp_base.specs.Sources.{side_number};
 ghost use Rattle.pp_trees.specs.Trees.{inf0, side};
-ghost use Rattle.pp_seek.specs.Seeking.{words_of, AtHead, Enters, StandsIn, StandsBut, IsNear, Approaches, LookedDown, LookedAtHead, Backs, CameOn, EndedAt, further_spot};
+ghost use Rattle.pp_seek.specs.Seeking.{words_of, AtHead, Enters, StandsIn, StandsBut, IsNear, Approaches, LookedDown, LookedAtHead, Backs};
+ghost use Rattle.pp_seek.specs.Seeking.{CameOn, EndedAt, further_spot};
 ghost use Rattle.pp_seek.specs.Keeping.{IsOf};
+ghost use Rattle.pp_seek.specs.Lone.{LoneSpot, LoneNext, LoneNear, LoneDown};
+ghost use Rattle.pp_trees.specs.Lone.{IsLone};
 
 use crate::keeping::{Words, keep_only, other_than};
 use crate::seek::{Above, Sought, Spot};
@@ -54,12 +57,14 @@ fn side_of(key: u64, here: u64) -> Side
     if key < here { Side::Left } else { Side::Right }
 }
 
-/// Comes from the head to the root. The first load of the call is its first step.
+/// Comes from the head to the root. The first load of the call is its first step. A pass that is alone on its pool holds nothing
+/// but what can be reached then, as before.
 pub fn enter(pool: &Pool<TreeShape>, pass: &mut Pass<TreeShape>, call: Call, fresh: bool) -> Spot
     requires fits { Fits pool.now.table.shared.table_id pool.now.layout pass.old.seat }
     requires head { AtHead (known pass.old.seat) call fresh }
     ensures same { IsSame pass.old.seat pass.new.seat }
     ensures enters { Enters pool.now.layout call fresh result (view pass.old.seat) (view pass.new.seat) }
+    ensures alone { IsLone pool.now.layout (view pass.old.seat) → LoneSpot pool.now.layout result (view pass.new.seat) }
     ensures purse { pass.new.purse ≡ pass.old.purse }
 {
     look_at_head(pool, pass, call, fresh);
@@ -91,7 +96,7 @@ fn look_at_head(pool: &Pool<TreeShape>, pass: &mut Pass<TreeShape>, call: Call, 
 }
 
 /// Loads an edge of the record where a seek stands, and announces the record that it leads to. None comes where the edge has
-/// INVALID.
+/// INVALID: a pass that is alone on its pool never finds that, and the edge stays as it was loaded.
 fn approach(
     pool: &Pool<TreeShape>,
     pass: &mut Pass<TreeShape>,
@@ -103,6 +108,7 @@ fn approach(
     requires call { key_of (known pass.old.seat).own.call ≡ key }
     ensures same { IsSame pass.old.seat pass.new.seat }
     ensures approaches { Approaches pool.now.layout key spot (view pass.old.seat) (view pass.new.seat) result }
+    ensures alone { LoneSpot pool.now.layout spot (view pass.old.seat) → LoneNear pool.now.layout spot (view pass.new.seat) result }
     ensures purse { pass.new.purse ≡ pass.old.purse }
 {
     let side = side_of(key, spot.key);
@@ -153,7 +159,8 @@ fn lose(
     Down::Moved
 }
 
-/// Makes a step down from where a seek stands.
+/// Makes a step down from where a seek stands. A pass that is alone on its pool comes to a further record or ends, where no
+/// record that can be reached is removed.
 pub fn go_down(pool: &Pool<TreeShape>, pass: &mut Pass<TreeShape>, spot: Spot, key: u64) -> Down
     requires fits { Fits pool.now.table.shared.table_id pool.now.layout pass.old.seat }
     requires stands { StandsIn (known pass.old.seat) spot }
@@ -161,6 +168,7 @@ pub fn go_down(pool: &Pool<TreeShape>, pass: &mut Pass<TreeShape>, spot: Spot, k
     requires pair { key < inf0 }
     ensures same { IsSame pass.old.seat pass.new.seat }
     ensures looked { LookedDown pool.now.layout key spot (view pass.old.seat) (view pass.new.seat) result }
+    ensures alone { LoneSpot pool.now.layout spot (view pass.old.seat) → LoneDown pool.now.layout (view pass.new.seat) result }
     ensures purse { pass.new.purse ≡ pass.old.purse }
 {
     let Some(next) = approach(pool, pass, spot, key) else {
@@ -173,7 +181,8 @@ pub fn go_down(pool: &Pool<TreeShape>, pass: &mut Pass<TreeShape>, spot: Spot, k
     come_on(pool, pass, spot, key, next)
 }
 
-/// Tries to come to the internal record that is announced.
+/// Tries to come to the internal record that is announced. A pass that is alone on its pool does: the edge is as it was, and the
+/// record's key lies between the bounds, since the root's walks to it went the seek's way.
 fn come_on(
     pool: &Pool<TreeShape>,
     pass: &mut Pass<TreeShape>,
@@ -187,6 +196,7 @@ fn come_on(
     requires pair { key < inf0 }
     ensures same { IsSame pass.old.seat pass.new.seat }
     ensures came { CameOn pool.now.layout spot next (view pass.old.seat) (view pass.new.seat) result }
+    ensures alone { LoneNext pool.now.layout spot next (view pass.old.seat) → LoneDown pool.now.layout (view pass.new.seat) result }
     ensures purse { pass.new.purse ≡ pass.old.purse }
 {
     let first = next.link.word();
@@ -233,7 +243,7 @@ fn further(spot: Spot, next: Next, key: u64, here: u64) -> Spot
     }
 }
 
-/// Tries to end at the leaf that is announced.
+/// Tries to end at the leaf that is announced. A pass that is alone on its pool does, since the edge is as it was.
 fn end_at(
     pool: &Pool<TreeShape>,
     pass: &mut Pass<TreeShape>,
@@ -247,6 +257,7 @@ fn end_at(
     requires pair { key < inf0 }
     ensures same { IsSame pass.old.seat pass.new.seat }
     ensures ended { EndedAt pool.now.layout key spot next (view pass.old.seat) (view pass.new.seat) result }
+    ensures alone { LoneNext pool.now.layout spot next (view pass.old.seat) → LoneDown pool.now.layout (view pass.new.seat) result }
     ensures purse { pass.new.purse ≡ pass.old.purse }
 {
     let Some(above) = spot.above else {

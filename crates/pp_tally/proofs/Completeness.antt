@@ -1,5 +1,5 @@
 -- Where nothing fails and nothing is wrong, a tally counts its input.
-use Rattle.std.proofs.Common.{◌≡◌, ℕ, List, refl, inl, inr, arith}
+use Rattle.std.proofs.Common.{ℕ, List, refl, inl, inr, arith}
 use Rattle.pp_outside.specs.Outside.{GaveMore}
 use Rattle.pp_devices.specs.declared.ways.Way.{Way}
 use Rattle.pp_devices.specs.declared.ways.Way.TheVariants as way

@@ -1,15 +1,14 @@
 -- How printing ends, and what that makes of a tally.
-use Rattle.std.proofs.Common.{◌≡◌, ℕ, ◌*◌, ◌≤◌, ◌<◌, List, ◌++◌, length, replicate, get_or, refl, sym, ap, ◌∙◌, subst, arith}
+use Rattle.std.proofs.Common.{◌≡◌, ℕ, ◌*◌, ◌≤◌, List, ◌++◌, length, replicate, get_or, refl, sym, ap, ◌∙◌, subst, arith}
 use Rattle.std.specs.Prelude.{Bool, true, false, Option, Some, None, is_some}
 use Rattle.std.proofs.lemmas.Bool.{true≢false}
 use Rattle.pp_devices.specs.declared.ways.Way.{Way}
 use Rattle.pp_devices.specs.declared.ways.Way.TheVariants as way
 use Rattle.pp_devices.specs.Devices.{Device, World, world}
 use Rattle.pp_model.specs.declared.Answer.{Answer}
-use Rattle.pp_model.specs.declared.Call.{Call}
 use Rattle.pp_model.specs.Calls.{inserts}
 use Rattle.pp_model.specs.History.{contents_of}
-use Rattle.pp_model.specs.Lists.{AtEach, times}
+use Rattle.pp_model.specs.Lists.{times}
 use Rattle.pp_model.specs.Pass.{RunView}
 use Rattle.pp_trace.specs.declared.Make.{Make}
 use Rattle.pp_words.specs.declared.Settings.{Settings}
@@ -22,7 +21,7 @@ use Rattle.pp_claims.proofs.Lists.{list_at, claims_inserts}
 use Rattle.pp_claims.proofs.Owned.{none_counted}
 use Rattle.pp_replay.specs.Replay.{IsRunUnder, meaning_of, share_of}
 use Rattle.pp_tally.specs.Parts.{HasNoBytes, IsFinished}
-use Rattle.pp_tally.specs.Tally.{TallyView, tally_view, Cause, Says, WasRead, IsTally, IsRefused}
+use Rattle.pp_tally.specs.Tally.{TallyView, tally_view, Cause, Says, WasRead, IsTally}
 use Rattle.pp_tally.specs.Text.{head_text, values_text, tally_text}
 use Rattle.pp_tally.proofs.Values.{values_same}
 

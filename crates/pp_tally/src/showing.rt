@@ -4,6 +4,7 @@ ghost use Rattle.std.specs.Prelude.{◌≡◌, ◌≤◌, ℕ, List, map, length
 ghost use Rattle.pp_devices.specs.Devices.{Device, device, world};
 ghost use Rattle.pp_devices.specs.declared.ways.Way.TheVariants as Way;
 ghost use Rattle.pp_model.specs.Lists.{AtEach};
+ghost use Rattle.pp_model.specs.MapCalls.{IsClean};
 ghost use Rattle.pp_pieces.specs.Pieces.{pieces_of};
 ghost use Rattle.pp_replay.specs.Parts.{IsChosen};
 ghost use Rattle.pp_replay.specs.Replay.{share_of, sizes_of};
@@ -52,6 +53,7 @@ where
     requires count { length passes.items ≡ settings.callers }
     requires passes { AtEach passes.items (λ c pass. M.Belongs chosen pass × M.Idle pass × IsOpened c (M.pass_view pass)) }
     requires shares { AtEach passes.items (λ c pass. (M.pass_view pass).share ≡ share_of settings.map (sizes_of settings) c) }
+    requires clean { AtEach passes.items (λ c pass. IsClean M.meaning (M.sizes chosen) (M.pass_view pass)) }
     requires room { AtEach passes.items (λ c pass. pieces_of (length bytes.now) ≤ (M.pass_view pass).room) }
     ensures { (words : List (List ℕ)) → (before : Device) → (after : Device) → Says words settings → WasRead before after bytes.now
         → Cause result.way words (world before (device (K.written sink.old) (K.faults sink.old)))

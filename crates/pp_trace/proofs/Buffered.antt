@@ -292,7 +292,8 @@ Puts-longer {K} {written} {faults} {Writes} {s0} {s1} {p0} {p1} {t} u e a = reco
   failed = a.failed;
 }
   where
-    longer : WroteToFault Writes OffersFull s0 (p0.waits ++ t) s1 p1.waits → WroteToFault Writes OffersFull s0 ((p0.waits ++ t) ++ u) s1 p1.waits
+    longer : WroteToFault Writes OffersFull s0 (p0.waits ++ t) s1 p1.waits → WroteToFault Writes OffersFull s0 ((p0.waits ++ t) ++ u) s1
+        p1.waits
     longer f = record {
       last = f.last;
       later = f.later ++ u;

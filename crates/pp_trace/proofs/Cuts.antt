@@ -30,7 +30,8 @@ first_line text some =
     (λ cut.
     let e = slice_split_first is_line_feed text 0 cut in
     let parts = length-slice_split is_line_feed rest in
-    rw e (ap (map strip_carriage_return) (without_empty_last-cons (before_first is_line_feed text) (slice_split is_line_feed rest) (omega arith))))
+    rw e (ap (map strip_carriage_return) (without_empty_last-cons (before_first is_line_feed text) (slice_split is_line_feed rest)
+    (omega arith))))
     (λ whole.
     let e = uncut is_line_feed text whole in
     let before : before_first is_line_feed text ≡ text = take_all _ text whole in
@@ -75,7 +76,8 @@ between_later : (text : List ℕ) (from end k : ℕ) → from + k ≤ end → be
 between_later text from end k within =
     let m = end - (from + k) in
     let split : end - from ≡ k + m = omega arith in
-    ap (take m) (sym (drop-drop k from text)) ∙ sym (drop-take k m (drop from text)) ∙ ap (λ j. drop k (take j (drop from text))) (sym split)
+    ap (take m) (sym (drop-drop k from text)) ∙ sym (drop-take k m (drop from text)) ∙ ap (λ j. drop k (take j (drop from text)))
+    (sym split)
 
 fields_of-blank : (byte : ℕ) (line : List ℕ) → is_blank byte ≡ true → fields_of (byte ∷ line) ≡ fields_of line
 fields_of-blank byte line blank = rw blank refl
@@ -94,7 +96,8 @@ fields_of-drop (byte ∷ line) =
     ap (λ j. fields_of (drop j (byte ∷ line))) (sym here))
     (cases_Bool (is_blank byte))
 
-filter-cons : (part : List ℕ) (parts : List (List ℕ)) → 0 < length part → filter is_some_text (part ∷ parts) ≡ part ∷ filter is_some_text parts
+filter-cons : (part : List ℕ) (parts : List (List ℕ)) → 0 < length part → filter is_some_text (part ∷ parts) ≡ part ∷ filter is_some_text
+    parts
 filter-cons part parts some = let full = lt-ltb 0 (length part) some in rw full refl
 
 -- a line that begins with a byte of a field begins with that field
@@ -110,7 +113,8 @@ first_field line some =
     (λ cut.
     let parts = slice_split_first is_blank line 0 cut in
     let behind = ap fields_of (drop_more line n 0 cut) ∙ fields_of-blank (get_or line n 0) rest (passes_at_first is_blank line 0 cut) in
-    ap (filter is_some_text) parts ∙ filter-cons before (slice_split is_blank rest) (omega arith) ∙ ap (λ fields. before ∷ fields) (sym behind))
+    ap (filter is_some_text) parts ∙ filter-cons before (slice_split is_blank rest) (omega arith) ∙ ap (λ fields. before ∷ fields)
+    (sym behind))
     (λ whole.
     let parts = uncut is_blank line whole in
     let behind : fields_of (drop n line) ≡ [] = ap fields_of (drop_all n line whole) in
@@ -135,7 +139,8 @@ no_field_at text from end k within blanks all =
     fields_of-drop range ∙ ap fields_of (drop_all (position_or_len is_field_byte range) range (omega arith))
 
 -- the first field between two places, where k blanks stand before it, and it has n bytes
-pub field_at : (text : List ℕ) (from end k n : ℕ) → from ≤ end → end ≤ length text → k ≡ position_or_len is_field_byte (between from end text)
+pub field_at : (text : List ℕ) (from end k n : ℕ) → from ≤ end → end ≤ length text → k ≡ position_or_len is_field_byte
+    (between from end text)
     → (from + k ≡ end → ⊥) → n ≡ position_or_len is_blank (between (from + k) end text)
     → IsFirstField text from end (record { start = from + k; end = from + k + n; next = from + k + n })
 field_at text from end k n order within blanks some size =

@@ -18,7 +18,8 @@ all_ascii_digits-list_all [] = refl
 all_ascii_digits-list_all (byte ∷ text) = ap (λ b. is_ascii_digit byte && b) (all_ascii_digits-list_all text)
 
 -- one more digit keeps a text of digits one
-pub digits-more : (text : List ℕ) (i : ℕ) → i < length text → all_ascii_digits (take i text) ≡ true → is_ascii_digit (get_or text i 0) ≡ true
+pub digits-more : (text : List ℕ) (i : ℕ) → i < length text → all_ascii_digits (take i text) ≡ true → is_ascii_digit (get_or text i 0)
+    ≡ true
     → all_ascii_digits (take (i + 1) text) ≡ true
 digits-more text i within digits digit =
     all_ascii_digits-list_all (take (i + 1) text) ∙ list_all_more is_ascii_digit text i 0 within

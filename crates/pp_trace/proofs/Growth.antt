@@ -5,7 +5,8 @@ use Rattle.pp_model.specs.declared.Call.{Call}
 use Rattle.pp_trace.specs.TraceLists.{with_call}
 
 -- a push to one of the vectors is a push to its list
-pub with_call-set : {X : Type 0} (list : X → List Call) (vectors : List X) (caller : ℕ) (old new : X) (call : Call) → caller < length vectors
+pub with_call-set : {X : Type 0} (list : X → List Call) (vectors : List X) (caller : ℕ) (old new : X) (call : Call)
+    → caller < length vectors
     → old ≡ get_or vectors caller old → list new ≡ list old ++ call ∷ []
     → map list (set vectors caller new) ≡ with_call (map list vectors) caller call
 with_call-set list vectors caller old new call within was is =

@@ -3,7 +3,8 @@
 ghost use Rattle.std.specs.Prelude.{◌≡◌, ◌<◌, ◌≤◌, [], length, take, MatchOption};
 ghost use Rattle.std.specs.List.{between, position_or_len};
 ghost use Rattle.std.specs.Str.Lines.{strip_carriage_return};
-ghost use Rattle.pp_trace.specs.Lines.{IsLineAt, IsFirstField, is_line_feed, is_blank, is_field_byte, fields_of, number_of, as_number, number_with_digit};
+ghost use Rattle.pp_trace.specs.Lines.{IsLineAt, IsFirstField, is_line_feed, is_blank, is_field_byte, fields_of, number_of, as_number};
+ghost use Rattle.pp_trace.specs.Lines.{number_with_digit};
 
 /// A part of a text: the places of its first byte, of the byte after its last one, and of the byte at which
 /// the scan goes on.

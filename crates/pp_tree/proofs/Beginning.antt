@@ -31,7 +31,8 @@ names_at (w ∷ ws) (suc k) zero is = ap (λ (l : List ℕ). get_or l 0 0) is
 names_at (w ∷ ws) (suc k) (suc j) is = names_at ws k j (let rest : map named_of ws ≡ replicate k zero = cc in rest)
 
 -- the walk words of a pass that names no record are empty
-pub all_empty : (z : Sizes) (q : TreePass) (walk : List ℕ) → IsPassOf z q → map named_of q.walk ≡ walk → walk ≡ replicate 5 zero → AllEmpty q
+pub all_empty : (z : Sizes) (q : TreePass) (walk : List ℕ) → IsPassOf z q → map named_of q.walk ≡ walk → walk ≡ replicate 5 zero
+    → AllEmpty q
 all_empty z q walk p is none j lt = let zero_named : (slot q j).named ≡ 0 = names_at q.walk 5 j (is ∙ none) in record {
   named = zero_named;
   free = by ((slot q j).held) refl zero_named;

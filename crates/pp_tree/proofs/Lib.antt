@@ -1,3 +1,4 @@
 pub mod Beginning
 pub mod Learning
 pub mod Turning
+pub mod Starting

@@ -7,7 +7,7 @@ use Rattle.pp_model.specs.declared.Reply.TheVariants.{Took}
 use Rattle.pp_model.specs.declared.Turned.{Turned}
 use Rattle.pp_model.specs.declared.Turned.TheVariants.{On, Done}
 use Rattle.pp_model.specs.declared.steps.Step.{Step}
-use Rattle.pp_model.specs.MapCalls.{AnswersCall, IfOn, IfDone, Counted, MakesTurn}
+use Rattle.pp_model.specs.MapCalls.{Answered, AnswersCall, IfOn, IfDone, Counted, MakesTurn}
 use Rattle.pp_model.specs.Pass.{PassView}
 use Rattle.pp_base.specs.declared.purse.Purse.{Purse}
 use Rattle.pp_calls.specs.PoolViews.{pool_view}
@@ -15,6 +15,8 @@ use Rattle.pp_calls.specs.Steps.{Went, HasOwn, StandsThen}
 use Rattle.pp_shelf.specs.Runs.{map_sizes, steps_made}
 use Rattle.pp_seek.specs.declared.seek.Spot.{Spot}
 use Rattle.pp_trees.specs.Edges.{TreeView}
+use Rattle.pp_trees.specs.Lone.{Sees}
+use Rattle.pp_trees.proofs.LoneCounts.{bare_clean_now}
 use Rattle.pp_turns.specs.Turns.{BegunAt}
 use Rattle.pp_turns.proofs.Answering.{makes_turn, begun_on, begun_shows, counts}
 use Rattle.pp_turns.proofs.Stretches.{steps_both, stepped_steps}
@@ -23,15 +25,13 @@ use Rattle.pp_tree_calls.specs.declared.going.TreeGoing.{TreeGoing}
 use Rattle.pp_tree_calls.specs.declared.going.Next.{Next}
 use Rattle.pp_tree_calls.specs.declared.going.Next.TheVariants.{Seeks, Publishes, Flags, Tags, Splices, Over}
 use Rattle.pp_tree_calls.specs.Going.{IsUnder, Stands, Begun, Tries, going_of, kind_of}
+use Rattle.pp_tree_calls.specs.Lone.{LoneAt, LoneTurn}
 use Rattle.pp_tree_calls.specs.Turned.{TreeTurned}
+use Rattle.pp_tree.specs.Trees.{IsGoing}
 
 on_by : (result : Turned) (P Q : Type 0) → (P → Q) → IfOn result P → IfOn result Q
 on_by On P Q f p = f p
 on_by (Done answer) P Q f p = tt
-
-done_by : (result : Turned) (P Q : Answer → Type 0) → ((a : Answer) → P a → Q a) → IfDone result P → IfDone result Q
-done_by On P Q f p = tt
-done_by (Done answer) P Q f p = f answer p
 
 kind_few : (n : Next) → kind_of n ≤ 3
 kind_few (Seeks s) = omega arith
@@ -75,31 +75,45 @@ module _ (z : Sizes) (share : ℕ) (g : TreeGoing) (from w : TreeView) (free fre
   stood_counts (Splices s side sibling) x = tried_counts x.0
   stood_counts Over x = absurd x
 
+-- What is known of the call over a turn of it that goes on.
+on_alone : (z : Sizes) (share : ℕ) (g g' : TreeGoing) (v w : TreeView) (p p' : Purse) (result : Turned)
+    → IfOn result ((from : TreeView) (free : List ℕ) → IsUnder z share g v p from free → IsUnder z share g' w p' from free)
+    → (LoneAt z g v → LoneTurn z g g' w result)
+    → IfOn result ((from : TreeView) (free : List ℕ) → IsGoing z share g v p from free → IsGoing z share g' w p' from free)
+on_alone z share g g' v w p p' On each alone = λ from free x. (
+  each from free x.0,
+  λ one clean. let l = x.1 one clean in
+      let turn = alone l.0 in (turn.on, turn.lost ∙ l.1),
+)
+on_alone z share g g' v w p p' (Done answer) each alone = tt
+
 module _ (z : Sizes) (share : ℕ) (g g' : TreeGoing) (v w : TreeView) (p p' : Purse) (result : Turned)
-    (t : TreeTurned z share g g' v w p p' result) where
+    (t : TreeTurned z share g g' v w p p' result) (alone : LoneAt z g v → LoneTurn z g g' w result) where
   abbrev Under : TreeGoing → TreeView → Purse → TreeView → List ℕ → Type 0
-  Under h x r = IsUnder z share h x r
+  Under h x r = IsGoing z share h x r
 
   pub made_clause : HasOwn w.order → w.known.sizes ≡ v.known.sizes
       → MakesTurn tree_meaning (going_of v.known g) (going_of w.known g') (pool_view v p.free.items share) (pool_view w p'.free.items share)
-  made_clause own sizes = makes_turn tree_meaning refl (going_of v.known g) (going_of w.known g') v w p.free.items p'.free.items share record {
-    stepped = t.stepped;
-    some_made = subst (λ (l : List Step). 0 < length l) (stepped_steps v w t.stepped) t.some_made;
-    stands = λ s. t.stands own s;
-  } sizes record {
-    call = t.call;
-    budget = t.races;
-    struck = t.stays;
-    few = kind_few g'.next;
-    high = t.high;
-  } t.strikes
+  made_clause own sizes = makes_turn tree_meaning refl (going_of v.known g) (going_of w.known g') v w p.free.items p'.free.items share
+      record {
+        stepped = t.stepped;
+        some_made = subst (λ (l : List Step). 0 < length l) (stepped_steps v w t.stepped) t.some_made;
+        stands = λ s. t.stands own s;
+      } sizes record {
+        call = t.call;
+        budget = t.races;
+        struck = t.stays;
+        few = kind_few g'.next;
+        high = t.high;
+      } t.strikes
 
   pub going_clause : IfOn result ((before : PassView) → BegunAt share (Under g v p) before → BegunAt share (Under g' w p') before)
   going_clause = on_by result ((from : TreeView) (free : List ℕ) → Under g v p from free → Under g' w p' from free)
       ((before : PassView) → BegunAt share (Under g v p) before → BegunAt share (Under g' w p') before)
-      (λ each before b. begun_on share (Under g v p) (Under g' w p') each before b) t.goes_on
+      (λ each before b. begun_on share (Under g v p) (Under g' w p') each before b)
+      (on_alone z share g g' v w p p' result t.goes_on alone)
 
-  counted_at : (from : TreeView) (free : List ℕ) → Under g v p from free → Under g' w p' from free
+  counted_at : (from : TreeView) (free : List ℕ) → IsUnder z share g v p from free → IsUnder z share g' w p' from free
       → Counted tree_meaning (map_sizes z) (going_of w.known g') (pool_view from free share) (pool_view w p'.free.items share)
   counted_at from free x y = stood_counts z share g' from w free p'.free.items
       (let e = ap (λ (l : List Step). length l) (steps_both from v w (stood_went z g g.next from v x.stands) t.stepped)
@@ -107,19 +121,39 @@ module _ (z : Sizes) (share : ℕ) (g g' : TreeGoing) (v w : TreeView) (p p' : P
 
   pub counted_clause : IfOn result ((before : PassView) → BegunAt share (Under g v p) before
       → Counted tree_meaning (map_sizes z) (going_of w.known g') before (pool_view w p'.free.items share))
-  counted_clause = on_by result ((from : TreeView) (free : List ℕ) → Under g v p from free → Under g' w p' from free)
-      ((before : PassView) → BegunAt share (Under g v p) before
+  counted_clause = on_by result
+      ((from : TreeView) (free : List ℕ) → IsUnder z share g v p from free → IsUnder z share g' w p' from free) ((before : PassView)
+      → BegunAt share (Under g v p) before
       → Counted tree_meaning (map_sizes z) (going_of w.known g') before (pool_view w p'.free.items share))
       (λ each before b. begun_shows share (Under g v p)
       (λ before. Counted tree_meaning (map_sizes z) (going_of w.known g') before (pool_view w p'.free.items share))
-      (λ from free x. counted_at from free x (each from free x)) before b) t.goes_on
+      (λ from free x. counted_at from free x.0 (each from free x.0)) before b) t.goes_on
 
-  pub answered_clause : StandsThen w → IfDone result (λ answer. (before : PassView) → BegunAt share (Under g v p) before
+  -- What is told of the call as it is answered, and that it was not disturbed where the pass is alone.
+  answers : (answer : Answer) → StandsThen w → Sees z w → (LoneAt z g v → LoneTurn z g g' w (Done answer))
+      → ((from : TreeView) (free : List ℕ) → IsUnder z share g v p from free → StandsThen w
+      → Answered tree_meaning (map_sizes z) g.call g.races (pool_view from free share) (pool_view w p'.free.items share) answer g'.lost)
+      → (from : TreeView) (free : List ℕ) → Under g v p from free
+      → AnswersCall tree_meaning (map_sizes z) g.call g.races (pool_view from free share) (pool_view w p'.free.items share) answer
+  answers answer stands sees lone each from free x = let told = each from free x.0 stands in record {
+    turns = g'.lost;
+    told = told;
+    alone = λ one clean. let l = x.1 one clean in let turn = lone l.0 in record {
+      lost = told.counted ∙ (turn.lost ∙ l.1);
+      clean = bare_clean_now z w sees one turn.done;
+    };
+  }
+
+  pub answered_clause : StandsThen w → Sees z w → IfDone result (λ answer. (before : PassView) → BegunAt share (Under g v p) before
       → AnswersCall tree_meaning (map_sizes z) g.call g.races before (pool_view w p'.free.items share) answer)
-  answered_clause stands = done_by result (λ answer. (from : TreeView) (free : List ℕ) → Under g v p from free → StandsThen w
-      → AnswersCall tree_meaning (map_sizes z) g.call g.races (pool_view from free share) (pool_view w p'.free.items share) answer)
-      (λ answer. (before : PassView) → BegunAt share (Under g v p) before
-      → AnswersCall tree_meaning (map_sizes z) g.call g.races before (pool_view w p'.free.items share) answer)
-      (λ answer each before b. begun_shows share (Under g v p)
-      (λ before. AnswersCall tree_meaning (map_sizes z) g.call g.races before (pool_view w p'.free.items share) answer)
-      (λ from free x. each from free x stands) before b) t.answered
+  answered_clause stands sees = by result alone t.answered
+    where
+      by : (r : Turned) → (LoneAt z g v → LoneTurn z g g' w r)
+          → IfDone r (λ answer. (from : TreeView) (free : List ℕ) → IsUnder z share g v p from free → StandsThen w
+          → Answered tree_meaning (map_sizes z) g.call g.races (pool_view from free share) (pool_view w p'.free.items share) answer g'.lost)
+          → IfDone r (λ answer. (before : PassView) → BegunAt share (Under g v p) before
+          → AnswersCall tree_meaning (map_sizes z) g.call g.races before (pool_view w p'.free.items share) answer)
+      by On lone each = tt
+      by (Done answer) lone each = λ before b. begun_shows share (Under g v p)
+          (λ before. AnswersCall tree_meaning (map_sizes z) g.call g.races before (pool_view w p'.free.items share) answer)
+          (λ from free x. answers answer stands sees lone each from free x) before b

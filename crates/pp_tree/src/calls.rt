@@ -32,7 +32,8 @@ fn answer(tree: &Tree, pass: &mut Pass<TreeShape>, call: Call, races: u64) -> An
     requires may { MayCall call races (pass_view pass.old) }
     ensures belongs { IsMember tree.now.pool.table.shared.table_id tree.now.pool.layout pass.new }
     ensures idle { IsResting pass.new }
-    ensures answered { AnswersCall tree_meaning (map_sizes tree.now.pool.layout) call races (pass_view pass.old) (pass_view pass.new) result }
+    ensures answered { AnswersCall tree_meaning (map_sizes tree.now.pool.layout) call races (pass_view pass.old) (pass_view pass.new)
+        result }
 {
     let mut going = tree.begin(pass, call, races);
     loop {

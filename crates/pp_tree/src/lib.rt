@@ -6,9 +6,12 @@ pub mod calls;
 ghost use Rattle.std.specs.Prelude.{◌≡◌, IfOk, length};
 ghost use Rattle.pp_link.specs.Places.{IsWithin};
 ghost use Rattle.pp_model.specs.Lists.{AtEach};
+ghost use Rattle.pp_model.specs.MapCalls.{IsClean};
 ghost use Rattle.pp_model.specs.Pass.{IsFresh};
 ghost use Rattle.pp_calls.specs.PoolViews.{pass_view};
+ghost use Rattle.pp_ends.specs.Ends.{map_sizes};
 ghost use Rattle.pp_rule.specs.Opening.{share_of};
+ghost use Rattle.pp_tree_turns.specs.Causes.{tree_meaning};
 ghost use Rattle.pp_turns.specs.Passes.{IsMember, IsResting};
 ghost use Rattle.pp_tree.specs.Trees.{tree_sizes};
 
@@ -31,7 +34,7 @@ pub struct Tree {
 
 impl Tree {
     /// An empty tree over so many records, and a pass for each caller, the one with the number 0 first. Five of the records are
-    /// the sentinels. It takes all the memory that any later call but `close` needs.
+    /// the sentinels, and no other one is attached. It takes all the memory that any later call but `close` needs.
     ///
     /// There are 1 to 64 passes and 8 to 262,144 records.
     ///
@@ -46,12 +49,15 @@ impl Tree {
         requires { IsWithin (tree_sizes passes records) }
         ensures sizes { IfOk result (λ made. made.0.pool.layout ≡ tree_sizes passes records) }
         ensures count { IfOk result (λ made. length made.1.items ≡ passes) }
-        ensures belong { IfOk result (λ made. AtEach made.1.items (λ k p. IsMember made.0.pool.table.shared.table_id made.0.pool.layout p)) }
+        ensures belong { IfOk result (λ made. AtEach made.1.items (λ k p. IsMember made.0.pool.table.shared.table_id made.0.pool.layout
+            p)) }
         ensures rest { IfOk result (λ made. AtEach made.1.items (λ k p. IsResting p)) }
         ensures fresh { IfOk result (λ made. AtEach made.1.items (λ k p. IsFresh (pass_view p))) }
         ensures share { IfOk result (λ made. AtEach made.1.items (λ k p. (pass_view p).share
             ≡ share_of 5 (tree_sizes passes records) k)) }
         ensures callers { IfOk result (λ made. AtEach made.1.items (λ k p. (pass_view p).caller ≡ k)) }
+        ensures clean { IfOk result (λ made. AtEach made.1.items (λ k p. IsClean tree_meaning (map_sizes made.0.pool.layout)
+            (pass_view p))) }
     {
         let sizes = Sizes {
             passes,

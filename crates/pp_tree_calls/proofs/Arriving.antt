@@ -4,6 +4,7 @@ use Rattle.std.proofs.Common.{◌∷◌, ◌++◌, refl, sym, ap, ◌∙◌, sub
 use Rattle.std.proofs.Common.{Option, Some, None, eqb-true, eq-eqb, ne_eqb, ⊎_elim, append_assoc}
 use Rattle.std.specs.Prelude.{not}
 use Rattle.std.proofs.Math.Bool.{false≢true}
+use Rattle.pp_calls.specs.PoolViews.{pool_view}
 use Rattle.pp_link.specs.declared.layout.Sizes.{Sizes}
 use Rattle.pp_link.specs.declared.link.Link.{Link}
 use Rattle.pp_link.specs.Links.{target, word_of, flag_bit, tag_bit, bit}
@@ -36,12 +37,13 @@ use Rattle.pp_seek.specs.Seeking.{IsSought}
 use Rattle.pp_trees.specs.Trees.{IsRight, across}
 use Rattle.pp_trees.specs.Searches.{TreePass}
 use Rattle.pp_trees.specs.Edges.{TreeView}
+use Rattle.pp_turns.proofs.Answering.{told_as}
 use Rattle.pp_turns.specs.Tallies.{losing, effected, lost_of, later_of}
 use Rattle.pp_turns.specs.Turns.{Since, Replied}
 use Rattle.pp_turns.proofs.Placing.{replied_later, unplaced_on, after_longer}
 use Rattle.pp_turns.proofs.Stretches.{saw_on}
 use Rattle.pp_tree_turns.specs.Walked.{Walked, tree_reader, TreeTally, moved}
-use Rattle.pp_tree_turns.specs.Causes.{flagged_leaf, ReadsValueOf, EndedElsewhere}
+use Rattle.pp_tree_turns.specs.Causes.{tree_meaning, flagged_leaf, ReadsValueOf, EndedElsewhere}
 use Rattle.pp_tree_turns.proofs.Exchanges.{tags_beside, tags_again, across_twice, side_two}
 use Rattle.pp_tree_calls.specs.declared.going.TreeGoing.{TreeGoing}
 use Rattle.pp_tree_calls.specs.declared.going.Next.{Next}
@@ -199,11 +201,11 @@ module _ (z : Sizes) (share : ℕ) (g : TreeGoing) (s : Sought) (v : TreeView) (
         goes_on = tt;
         answered = λ from free k stands. let l = k.losing_still off in
             let lost : l.lost ≡ g.lost = sym (ap (λ (y : TreeTally). lost_of y) l.is) ∙ k.counts.lost_is in
-            e.answered from free record {
-              by = subst (λ (b : Bool). SaysBy b z g.races g.call said from v) (sym plain) record {
+            told_as tree_meaning (map_sizes z) g.call g.races (pool_view from free share) (pool_view w p'.free.items share)
+            (Said said) l.lost g'.lost (lost ∙ sym (ap (λ x. x.lost) over)) (e.answered from free l.lost record {
+              by = subst (λ (b : Bool). SaysBy b z g.races g.call said l.lost from v) (sym plain) record {
                 start = v.known.own.start;
                 memory = l.memory;
-                lost = l.lost;
                 since = subst (λ (x : TreeTally). Since tree_reader (map_sizes z) g.call v.known.own.start x from v) l.is k.counts.since;
                 few = omega (arith, few, lost);
                 replied = subst (λ (r : Reply). Replied g.call r v.known.own.start from v) is (k.settled off (ap changes is ∙ plain));
@@ -212,7 +214,7 @@ module _ (z : Sizes) (share : ℕ) (g : TreeGoing) (s : Sought) (v : TreeView) (
               sizes = k.carries.sizes;
               kept = let few = k.carries.kept in omega arith;
               alone = k.carries.alone;
-            } stands;
+            } stands);
       }
 
   -- where a seek ended elsewhere, by its steps
@@ -255,11 +257,13 @@ module _ (z : Sizes) (share : ℕ) (g : TreeGoing) (s : Sought) (v : TreeView) (
             let x = ended_elsewhere k.counts.tally from h (k.ended on)
             (⊎_elim (λ (a : flag_bit (word_of s.edge) ≡ 0). inl a) (λ (b : (slot v.known s.word).key ≢ key_of g.call). inr
             (inl b)) other) in
-            e.answered from free record {
+            told_as tree_meaning (map_sizes z) g.call g.races (pool_view from free share) (pool_view w p'.free.items share)
+            (Said (Took g.taken)) h.lost g'.lost (sym (ap (λ (y : TreeTally). lost_of y) h.is)
+            ∙ (k.counts.lost_is ∙ sym (ap (λ x. x.lost) over)))
+            (e.answered from free h.lost record {
               by = record {
                 start = v.known.own.start;
                 memory = h.memory;
-                lost = h.lost;
                 early = h.early;
                 later = h.later;
                 since = subst (λ (y : TreeTally). Since tree_reader (map_sizes z) g.call v.known.own.start y from v) h.is k.counts.since;
@@ -275,7 +279,7 @@ module _ (z : Sizes) (share : ℕ) (g : TreeGoing) (s : Sought) (v : TreeView) (
               sizes = k.carries.sizes;
               kept = let few = k.carries.kept in omega arith;
               alone = k.carries.alone;
-            } stands;
+            } stands);
       }
 
   -- it goes on trying

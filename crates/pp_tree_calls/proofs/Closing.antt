@@ -12,7 +12,7 @@ use Rattle.pp_model.specs.declared.steps.Step.{Step}
 use Rattle.pp_model.specs.declared.steps.OrderEntry.{OrderEntry}
 use Rattle.pp_model.specs.declared.Change.{Change}
 use Rattle.pp_model.specs.Calls.{changes}
-use Rattle.pp_model.specs.MapCalls.{LeftAlone, LeavesPurse, Tidied, AnswersCall}
+use Rattle.pp_model.specs.MapCalls.{LeftAlone, LeavesPurse, Tidied, Answered}
 use Rattle.pp_model.specs.Pass.{steps_of, replayed}
 use Rattle.pp_rule.specs.Causes.{WasDetached, memory_after}
 use Rattle.pp_rule.specs.Lists.{IsIn}
@@ -127,33 +127,33 @@ module _ (z : Sizes) (share races : ℕ) (call : Call) (records : TwoRecords) (v
   module _ (from : TreeView) (free : List ℕ) (stands : StandsThen w) (all_sizes : v.known.sizes ≡ from.known.sizes)
       (last : SawLast from v) (kept : Kept free share p.free.items (out_of records + spends_of call))
       (alone : is_look call ≡ true → LeftAlone (pool_view from free share) (pool_view v p.free.items share)) where
-    plain : (said : Reply) → changes said ≡ false → SaysPlain z races call said from v
-        → AnswersCall tree_meaning (map_sizes z) call races (pool_view from free share) (pool_view w p'.free.items share) (Said said)
-    plain said unchanged b =
-        let on = since_on tree_reader (map_sizes z) call b.start (losing b.memory b.lost) _ from v w b.since
-        (counts_losing tree_reader z (tree_over z) call v w aside b.memory b.lost) in
+    plain : (said : Reply) (lost : ℕ) → changes said ≡ false → SaysPlain z races call said lost from v
+        → Answered tree_meaning (map_sizes z) call races (pool_view from free share) (pool_view w p'.free.items share) (Said said) lost
+    plain said lost unchanged b =
+        let on = since_on tree_reader (map_sizes z) call b.start (losing b.memory lost) _ from v w b.since
+        (counts_losing tree_reader z (tree_over z) call v w aside b.memory lost) in
         says_plain tree_words tree_causes HoldsPairs (map_sizes z) call races from w free p'.free.items share b.start _ on
         (saw_on from v w b.since.went last aside.stepped) (sizes ∙ all_sizes) stands said
         (replied_later call said b.start from v w b.since.went.number aside.stepped.order b.replied aside.unplaced) b.few
         (leaves_purse z share records from v w free p p' b.since.went call l kept alone four)
 
-    struck : (said : Reply) → SaysStruck z races call said from v
-        → AnswersCall tree_meaning (map_sizes z) call races (pool_view from free share) (pool_view w p'.free.items share) (Said said)
-    struck said b =
-        let t' : TreeTally = effected (memory_after tree_reader (map_sizes z) call b.memory (steps_made v w)) b.lost b.early
+    struck : (said : Reply) (lost : ℕ) → SaysStruck z races call said lost from v
+        → Answered tree_meaning (map_sizes z) call races (pool_view from free share) (pool_view w p'.free.items share) (Said said) lost
+    struck said lost b =
+        let t' : TreeTally = effected (memory_after tree_reader (map_sizes z) call b.memory (steps_made v w)) lost b.early
         (b.later ++ steps_made v w) in
-        let on = since_on tree_reader (map_sizes z) call b.start (effected b.memory b.lost b.early b.later) t' from v w b.since
-        (counts_effected tree_reader z (tree_over z) call v w aside b.memory b.lost b.early b.later) in
+        let on = since_on tree_reader (map_sizes z) call b.start (effected b.memory lost b.early b.later) t' from v w b.since
+        (counts_effected tree_reader z (tree_over z) call v w aside b.memory lost b.early b.later) in
         says_struck tree_words tree_causes HoldsPairs (map_sizes z) call races from w free p'.free.items share b.start t' on
         (saw_on from v w b.since.went last aside.stepped) (sizes ∙ all_sizes) stands said
         (struck_later call said from v w b.since.went.number aside.stepped.order b.struck aside.unplaced) b.few
         (λ x is. let why = b.took x is in
         took_on z call races b.start from v w b.memory (memory_after tree_reader (map_sizes z) call b.memory
-        (steps_made v w)) b.lost b.early b.later b.since aside.stepped why.0 why.1)
+        (steps_made v w)) lost b.early b.later b.since aside.stepped why.0 why.1)
         (leaves_purse z share records from v w free p p' b.since.went call l kept alone four)
 
     gives_up : (turns : ℕ) → GivesUp z races call turns from v
-        → AnswersCall tree_meaning (map_sizes z) call races (pool_view from free share) (pool_view w p'.free.items share) (Lost turns)
+        → Answered tree_meaning (map_sizes z) call races (pool_view from free share) (pool_view w p'.free.items share) (Lost turns) turns
     gives_up turns b =
         let t' : TreeTally = losing (memory_after tree_reader (map_sizes z) call b.memory (steps_made v w)) turns in
         let on = since_on tree_reader (map_sizes z) call b.start (losing b.memory turns) t' from v w b.since
@@ -163,19 +163,20 @@ module _ (z : Sizes) (share races : ℕ) (call : Call) (records : TwoRecords) (v
         (unplaced_on from v w b.since.went.number b.unplaced aside.unplaced) refl refl b.all
         (leaves_purse z share records from v w free p p' b.since.went call l kept alone four)
 
-    answers : (answer : Answer) → AnswersBy z races call answer from v
-        → AnswersCall tree_meaning (map_sizes z) call races (pool_view from free share) (pool_view w p'.free.items share) answer
-    answers (Said r) b = by (changes r) refl b
+    answers : (answer : Answer) (lost : ℕ) → AnswersBy z races call answer lost from v
+        → Answered tree_meaning (map_sizes z) call races (pool_view from free share) (pool_view w p'.free.items share) answer lost
+    answers (Said r) lost b = by (changes r) refl b
       where
-        by : (c : Bool) → changes r ≡ c → SaysBy c z races call r from v
-            → AnswersCall tree_meaning (map_sizes z) call races (pool_view from free share) (pool_view w p'.free.items share) (Said r)
-        by true is b = struck r b
-        by false is b = plain r is b
-    answers Full b = absurd b
-    answers (Lost turns) b = gives_up turns b
+        by : (c : Bool) → changes r ≡ c → SaysBy c z races call r lost from v
+            → Answered tree_meaning (map_sizes z) call races (pool_view from free share) (pool_view w p'.free.items share) (Said r) lost
+        by true is b = struck r lost b
+        by false is b = plain r lost is b
+    answers Full lost b = absurd b
+    answers (Lost turns) lost b = subst (λ (n : ℕ). Answered tree_meaning (map_sizes z) call races (pool_view from free share)
+        (pool_view w p'.free.items share) (Lost turns) n) b.1 (gives_up turns b.0)
 
   pub ended : (answer : Answer) → Ends z share races call records answer v w p p'
   ended answer = record {
     aside = aside;
-    answered = λ from free m stands. answers from free stands m.sizes m.last m.kept m.alone answer m.by;
+    answered = λ from free lost m stands. answers from free stands m.sizes m.last m.kept m.alone answer lost m.by;
   }

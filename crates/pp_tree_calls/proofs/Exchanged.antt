@@ -4,6 +4,7 @@ use Rattle.std.proofs.Common.{length, refl, sym, ap, ◌∙◌, subst, ⊎_elim,
 use Rattle.std.proofs.Common.{Option, Some, None, append-nil, arith, ne_eqb, eq-eqb}
 use Rattle.std.specs.Prelude.{nat_eq}
 use Rattle.std.proofs.Math.Bool.{false≢true}
+use Rattle.pp_calls.specs.PoolViews.{pool_view}
 use Rattle.pp_link.specs.declared.layout.Sizes.{Sizes}
 use Rattle.pp_link.specs.declared.link.Link.{Link}
 use Rattle.pp_link.specs.Links.{word_of, target, invalid_bit}
@@ -14,6 +15,7 @@ use Rattle.pp_model.specs.Pass.{MapSizes}
 use Rattle.pp_rule.specs.Causes.{WasDetached, pool_sizes}
 use Rattle.pp_rule.specs.Orders.{made_by, entries_of}
 use Rattle.pp_calls.proofs.Growing.{stepped_none}
+use Rattle.pp_turns.proofs.Answering.{told_as}
 use Rattle.pp_turns.proofs.Stretches.{steps_none}
 use Rattle.pp_seek.specs.Trails.{reads}
 use Rattle.pp_model.specs.declared.Reply.TheVariants.{Took}
@@ -43,7 +45,7 @@ use Rattle.pp_turns.proofs.Detached.{was_detached}
 use Rattle.pp_turns.proofs.Placing.{struck_on}
 use Rattle.pp_turns.proofs.Stretches.{saw_last, since_on, steps_both}
 use Rattle.pp_tree_turns.specs.Walked.{Walked, fresh_walk, tree_reader, TreeTally, moved}
-use Rattle.pp_tree_turns.specs.Causes.{tree_words, tree_causes, flagged_leaf, ReadsValueOf, EndedElsewhere}
+use Rattle.pp_tree_turns.specs.Causes.{tree_meaning, tree_words, tree_causes, flagged_leaf, ReadsValueOf, EndedElsewhere}
 use Rattle.pp_tree_turns.specs.Turning.{Walks}
 use Rattle.pp_tree_turns.specs.Exchanging.{flags, FlagsNext, SplicesNext, MissesEdge, FlagsLeaf, TagsEdge, MissesPath, TakesPath}
 use Rattle.pp_tree_turns.proofs.Exchanges.{tags_after_flag, across_twice, side_two}
@@ -214,9 +216,9 @@ module _ (z : Sizes) (share : ℕ) (g : TreeGoing) (s : Sought) (v u : TreeView)
 pub end_part : (z : Sizes) (share : ℕ) (g g' : TreeGoing) (answer : Answer) (u w : TreeView) (p p' : Purse) (result : Turned)
     → g' ≡ record g { next = Over; records = None } → result ≡ Done answer → g.struck ≡ took_effect answer
     → Ends z share g.races g.call g.records answer u w p p'
-    → Part z share (λ from free. MayEnd z share g.races g.call g.records answer from u free p) g g' u w p' result
+    → Part z share (λ from free. MayEnd z share g.races g.call g.records answer g.lost from u free p) g g' u w p' result
 end_part z share g g' answer u w p p' result over done took e =
-    subst (λ (r : Turned). Part z share (λ from free. MayEnd z share g.races g.call g.records answer from u free p) g g' u w p' r)
+    subst (λ (r : Turned). Part z share (λ from free. MayEnd z share g.races g.call g.records answer g.lost from u free p) g g' u w p' r)
     (sym done) record {
       stepped = e.aside.stepped;
       stands = e.aside.stands;
@@ -225,7 +227,8 @@ end_part z share g g' answer u w p p' result over done took e =
       advances = tt;
       high = ends_high g' (ap (λ x. x.next) over);
       goes_on = tt;
-      answered = λ from free k st. e.answered from free k st;
+      answered = λ from free k st. told_as tree_meaning (map_sizes z) g.call g.races (pool_view from free share)
+          (pool_view w p'.free.items share) answer g.lost g'.lost (sym (ap (λ x. x.lost) over)) (e.answered from free g.lost k st);
     }
 
 -- the leaf that the first of some steps flags
@@ -364,24 +367,24 @@ module _ (z : Sizes) (share : ℕ) (g : TreeGoing) (s : Sought) (v u : TreeView)
 module _ (z : Sizes) (share : ℕ) (g : TreeGoing) (s : Sought) (v u : TreeView) (p p' : Purse) (side : Side) (sibling : Link)
     (at : g.next ≡ Splices s side sibling) (on : g.struck ≡ true) (e : TakesPath z v u) where
   pub splice_may : p'.free ≡ p.free → u.known.sizes ≡ v.known.sizes → (from : TreeView) (free : List ℕ) → IsUnder z share g v p from free
-      → MayEnd z share g.races g.call g.records (Said (Took g.taken)) from u free p'
-  splice_may same sizes from free under = record {
-    by = record {
-      start = u.known.own.start;
-      memory = now.memory;
-      lost = now.lost;
-      early = now.early;
-      later = now.later;
-      since = subst (λ (y : TreeTally). Since tree_reader (map_sizes z) g.call u.known.own.start y from u) now.is t.counts.since;
-      few = now.few;
-      struck = now.struck;
-      took = λ x is. (why, now.some);
-    };
-    last = saw_last from v u k.0.counts.since.went e.names.stepped (some_in e.flush _ _ (steps_made v u) e.names.named);
-    sizes = sizes ∙ under.carries.sizes;
-    kept = let few = under.carries.kept in let same_long = ap (λ f. length f.items) same in omega arith;
-    alone = λ looks. absurd (false≢true (sym k.1.1.0 ∙ looks));
-  }
+      → MayEnd z share g.races g.call g.records (Said (Took g.taken)) g.lost from u free p'
+  splice_may same sizes from free under = subst (λ (n : ℕ). MayEnd z share g.races g.call g.records (Said (Took g.taken)) n from u free p')
+      (sym (ap (λ (y : TreeTally). lost_of y) now.is) ∙ t.counts.lost_is) record {
+        by = record {
+          start = u.known.own.start;
+          memory = now.memory;
+          early = now.early;
+          later = now.later;
+          since = subst (λ (y : TreeTally). Since tree_reader (map_sizes z) g.call u.known.own.start y from u) now.is t.counts.since;
+          few = now.few;
+          struck = now.struck;
+          took = λ x is. (why, now.some);
+        };
+        last = saw_last from v u k.0.counts.since.went e.names.stepped (some_in e.flush _ _ (steps_made v u) e.names.named);
+        sizes = sizes ∙ under.carries.sizes;
+        kept = let few = under.carries.kept in let same_long = ap (λ f. length f.items) same in omega arith;
+        alone = λ looks. absurd (false≢true (sym k.1.1.0 ∙ looks));
+      }
     where
       k : Stands z g (Splices s side sibling) from v
       k = subst (λ (n : Next). Stands z g n from v) at under.stands

@@ -11,3 +11,5 @@ pub mod Exchanged
 pub mod Taking
 pub mod Publishing
 pub mod Taken
+pub mod Alone
+pub mod AloneLearns

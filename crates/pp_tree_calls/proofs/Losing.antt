@@ -2,6 +2,8 @@
 use Rattle.std.proofs.Common.{◌≡◌, ℕ, ◌+◌, ◌<◌, ◌≤◌, ◌^◌, Bool, true, false, List, length, map, refl, sym, ap, ◌∙◌, subst}
 use Rattle.std.proofs.Common.{inl, inr, arith}
 use Rattle.std.proofs.lemmas.List.{length-map}
+use Rattle.pp_tree_turns.specs.Causes.{tree_meaning}
+use Rattle.pp_calls.specs.PoolViews.{pool_view}
 use Rattle.pp_link.specs.declared.layout.Sizes.{Sizes}
 use Rattle.pp_model.specs.declared.Answer.TheVariants.{Said, Lost}
 use Rattle.pp_model.specs.declared.Reply.TheVariants.{Took}
@@ -18,6 +20,7 @@ use Rattle.pp_trees.specs.Trees.{inf0}
 use Rattle.pp_model.specs.Calls.{key_of}
 use Rattle.pp_trees.specs.Searches.{TreePass}
 use Rattle.pp_trees.specs.Edges.{TreeView}
+use Rattle.pp_turns.proofs.Answering.{told_as}
 use Rattle.pp_turns.specs.Tallies.{losing, lost_of, memory_of}
 use Rattle.pp_turns.specs.Turns.{Since}
 use Rattle.pp_tree_turns.specs.Walked.{tree_reader, TreeTally}
@@ -35,12 +38,11 @@ four_chains q p is few = let e = sym (length-map q.chains in_hand_of) ∙ ap (λ
 
 -- a call that has taken a pair says so
 pub says_took : (z : Sizes) (g : TreeGoing) (t : TreeTally) (start : ℕ) (from v : TreeView)
-    → Since tree_reader (map_sizes z) g.call start t from v → HasTaken (map_sizes z) g.call g.races g.taken t from v
-    → (lost_of t ≡ g.races) → SaysStruck z g.races g.call (Took g.taken) from v
+    → Since tree_reader (map_sizes z) g.call start t from v → (h : HasTaken (map_sizes z) g.call g.races g.taken t from v)
+    → (lost_of t ≡ g.races) → SaysStruck z g.races g.call (Took g.taken) h.lost from v
 says_took z g t start from v since h all = record {
   start = start;
   memory = h.memory;
-  lost = h.lost;
   early = h.early;
   later = h.later;
   since = subst (λ (x : TreeTally). Since tree_reader (map_sizes z) g.call start x from v) h.is since;
@@ -87,10 +89,10 @@ module _ (z : Sizes) (share : ℕ) (g : TreeGoing) (s : Seek) (v : TreeView) (p 
   }
 
   -- It gave up.
-  pub lost_ends : (g' : TreeGoing) (w : TreeView) (p' : Purse) (result : Turned) → SameGoing g g' → g'.next ≡ Over → g.struck ≡ false
-      → g.lost + 1 ≡ g.races → result ≡ Done (Lost (g.lost + 1))
+  pub lost_ends : (g' : TreeGoing) (w : TreeView) (p' : Purse) (result : Turned) → SameGoing g g' → g'.lost ≡ g.lost + 1
+      → g'.next ≡ Over → g.struck ≡ false → g.lost + 1 ≡ g.races → result ≡ Done (Lost (g.lost + 1))
       → Ends z share g.races g.call g.records (Lost (g.lost + 1)) v w p p' → Part z share (HasLost z share g s v p) g g' v w p' result
-  lost_ends g' w p' result same over none all is e = subst (λ (r : Turned). Part z share (HasLost z share g s v p) g g' v w p' r)
+  lost_ends g' w p' result same lost_now over none all is e = subst (λ (r : Turned). Part z share (HasLost z share g s v p) g g' v w p' r)
       (sym is) record {
         stepped = e.aside.stepped;
         stands = e.aside.stands;
@@ -101,15 +103,18 @@ module _ (z : Sizes) (share : ℕ) (g : TreeGoing) (s : Seek) (v : TreeView) (p 
         goes_on = tt;
         answered = λ from free k stands. let u = k.tries.untaken none in
             let lost : u.0.lost ≡ g.lost + 1 = sym (ap (λ (y : TreeTally). lost_of y) u.0.is) ∙ k.tries.counts.lost_is in
-            e.answered from free record {
-              by = record {
-                start = v.known.own.start;
-                memory = u.0.memory;
-                since = subst (λ (x : TreeTally). Since tree_reader (map_sizes z) g.call v.known.own.start x from v)
-                    (u.0.is ∙ ap (losing u.0.memory) lost) k.tries.counts.since;
-                all = all;
-                unplaced = u.1;
-              };
+            e.answered from free g'.lost record {
+              by = (
+                record {
+                  start = v.known.own.start;
+                  memory = u.0.memory;
+                  since = subst (λ (x : TreeTally). Since tree_reader (map_sizes z) g.call v.known.own.start x from v)
+                      (u.0.is ∙ ap (losing u.0.memory) lost) k.tries.counts.since;
+                  all = all;
+                  unplaced = u.1;
+                },
+                sym lost_now,
+              );
               last = k.last;
               sizes = k.carries.sizes;
               kept = let few = k.carries.kept in omega arith;
@@ -118,10 +123,10 @@ module _ (z : Sizes) (share : ℕ) (g : TreeGoing) (s : Seek) (v : TreeView) (p 
       }
 
   -- It says what it took.
-  pub lost_took : (g' : TreeGoing) (w : TreeView) (p' : Purse) (result : Turned) → SameGoing g g' → g'.next ≡ Over → g.struck ≡ true
-      → g.lost + 1 ≡ g.races → result ≡ Done (Said (Took g.taken))
+  pub lost_took : (g' : TreeGoing) (w : TreeView) (p' : Purse) (result : Turned) → SameGoing g g' → g'.lost ≡ g.lost + 1
+      → g'.next ≡ Over → g.struck ≡ true → g.lost + 1 ≡ g.races → result ≡ Done (Said (Took g.taken))
       → Ends z share g.races g.call g.records (Said (Took g.taken)) v w p p' → Part z share (HasLost z share g s v p) g g' v w p' result
-  lost_took g' w p' result same over took all is e = subst (λ (r : Turned). Part z share (HasLost z share g s v p) g g' v w p' r)
+  lost_took g' w p' result same lost_now over took all is e = subst (λ (r : Turned). Part z share (HasLost z share g s v p) g g' v w p' r)
       (sym is) record {
         stepped = e.aside.stepped;
         stands = e.aside.stands;
@@ -130,12 +135,15 @@ module _ (z : Sizes) (share : ℕ) (g : TreeGoing) (s : Seek) (v : TreeView) (p 
         advances = tt;
         high = ends_high g' over;
         goes_on = tt;
-        answered = λ from free k stands. e.answered from free record {
-          by = says_took z g k.tries.counts.tally v.known.own.start from v k.tries.counts.since (k.tries.taken took)
-              (k.tries.counts.lost_is ∙ all);
-          last = k.last;
-          sizes = k.carries.sizes;
-          kept = let few = k.carries.kept in omega arith;
-          alone = k.carries.alone;
-        } stands;
+        answered = λ from free k stands. let h = k.tries.taken took in
+            told_as tree_meaning (map_sizes z) g.call g.races (pool_view from free share) (pool_view w p'.free.items share)
+            (Said (Took g.taken)) h.lost g'.lost
+            (sym (ap (λ (y : TreeTally). lost_of y) h.is) ∙ (k.tries.counts.lost_is ∙ sym lost_now)) (e.answered from free h.lost record {
+              by = says_took z g k.tries.counts.tally v.known.own.start from v k.tries.counts.since (k.tries.taken took)
+                  (k.tries.counts.lost_is ∙ all);
+              last = k.last;
+              sizes = k.carries.sizes;
+              kept = let few = k.carries.kept in omega arith;
+              alone = k.carries.alone;
+            } stands);
       }

@@ -128,26 +128,26 @@ module _ (z : Sizes) (share : ℕ) (g : TreeGoing) (s : Sought) (f : Fresh × Fr
   -- The pair was added, and the insert may be answered.
   pub publish_may : (k value : ℕ) → g.call ≡ Insert k value → g.records ≡ None → PublishesPair k value v u → (p' : Purse) → p'.free ≡ p.free
       → u.known.sizes ≡ v.known.sizes → (from : TreeView) (free : List ℕ) → IsUnder z share (with_records g f) v p from free
-      → MayEnd z share g.races g.call g.records (Said Added) from u free p'
-  publish_may k value call bare e p' same sizes from free under = record {
-    by = record {
-      start = v.known.own.start;
-      memory = struck_walk z g.call l.memory;
-      lost = l.lost;
-      early = l.lost;
-      later = t.later;
-      since = since_on tree_reader (map_sizes z) g.call v.known.own.start (losing l.memory l.lost) _ from v u since t.ran;
-      few = let below = under.below in omega (arith, below, lost);
-      struck = struck_on g.call Added from v u since.went.number since.went.order (m.tries.untaken m.off).1
-          (subst (λ (c : Call). Struck c Added v u) (sym call) e.struck);
-      took = λ y is. absurd cc;
-    };
-    last = saw_last from v u since.went e.names.stepped (some_in e.before _ _ (steps_made v u) e.names.named);
-    sizes = sizes ∙ under.carries.sizes;
-    kept = let few = under.carries.kept in let long = ap (λ y. length y.items) same in let none = ap out_of bare in
-        let spends = ap spends_of call in omega arith;
-    alone = λ looks. absurd (false≢true (sym (insert_changes z (with_records g f) s from v m) ∙ looks));
-  }
+      → MayEnd z share g.races g.call g.records (Said Added) g.lost from u free p'
+  publish_may k value call bare e p' same sizes from free under =
+      subst (λ (n : ℕ). MayEnd z share g.races g.call g.records (Said Added) n from u free p') lost record {
+        by = record {
+          start = v.known.own.start;
+          memory = struck_walk z g.call l.memory;
+          early = l.lost;
+          later = t.later;
+          since = since_on tree_reader (map_sizes z) g.call v.known.own.start (losing l.memory l.lost) _ from v u since t.ran;
+          few = let below = under.below in omega (arith, below, lost);
+          struck = struck_on g.call Added from v u since.went.number since.went.order (m.tries.untaken m.off).1
+              (subst (λ (c : Call). Struck c Added v u) (sym call) e.struck);
+          took = λ y is. absurd cc;
+        };
+        last = saw_last from v u since.went e.names.stepped (some_in e.before _ _ (steps_made v u) e.names.named);
+        sizes = sizes ∙ under.carries.sizes;
+        kept = let few = under.carries.kept in let long = ap (λ y. length y.items) same in let none = ap out_of bare in
+            let spends = ap spends_of call in omega arith;
+        alone = λ looks. absurd (false≢true (sym (insert_changes z (with_records g f) s from v m) ∙ looks));
+      }
     where
       m : MayPublish z (with_records g f) s from v
       m = may_publish z (with_records g f) s from v at under.stands
@@ -172,12 +172,12 @@ module _ (z : Sizes) (share : ℕ) (g : TreeGoing) (s : Sought) (f : Fresh × Fr
   pub added_turned : (k value : ℕ) → g.call ≡ Insert k value → g.records ≡ None → (e : PublishesPair k value v u) → (q : Purse)
       → q.free ≡ p.free
       → u.known.sizes ≡ v.known.sizes → (g' : TreeGoing) (w : TreeView) (p' : Purse) (result : Turned) → Stepped u w → Unplaced u w
-      → Part z share (λ from free. MayEnd z share g.races g.call g.records (Said Added) from u free q)
+      → Part z share (λ from free. MayEnd z share g.races g.call g.records (Said Added) g.lost from u free q)
       (record g { struck = true }) g' u w p' result
       → TreeTurned z share (with_records g f) g' v w p p' result
   added_turned k value call bare e q same sizes g' w p' result stepped none part =
       turned_by z share (with_records g f) (record g { struck = true }) g' v u w p p' result
-      (λ from free. MayEnd z share g.races g.call g.records (Said Added) from u free q) refl refl refl refl (λ on. refl)
+      (λ from free. MayEnd z share g.races g.call g.records (Said Added) g.lost from u free q) refl refl refl refl (λ on. refl)
       (λ off on. (
         Added,
         struck_later g.call Added v u w e.names.stepped.number stepped.order

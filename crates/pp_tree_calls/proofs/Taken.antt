@@ -12,7 +12,7 @@ use Rattle.pp_model.specs.declared.Turned.{Turned}
 use Rattle.pp_model.specs.declared.Turned.TheVariants.{On, Done}
 use Rattle.pp_model.specs.declared.steps.Step.{Step}
 use Rattle.pp_model.specs.Lists.{IsPrefix}
-use Rattle.pp_model.specs.MapCalls.{AnswersCall, LeavesPurse, WentOn}
+use Rattle.pp_model.specs.MapCalls.{Answered, LeavesPurse, WentOn}
 use Rattle.pp_model.specs.Pass.{GoingView}
 use Rattle.pp_rule.specs.Causes.{owned_after}
 use Rattle.pp_rule.specs.declared.views.WalkSlot.{WalkSlot}
@@ -37,7 +37,7 @@ use Rattle.pp_trees.specs.Edges.{TreeView}
 use Rattle.pp_turns.specs.Tallies.{losing, lost_of, memory_of}
 use Rattle.pp_turns.specs.Turns.{Since, WasAbsent}
 use Rattle.pp_turns.specs.Causes.{Aside, is_aside}
-use Rattle.pp_turns.proofs.Answering.{says_full}
+use Rattle.pp_turns.proofs.Answering.{told_as, says_full}
 use Rattle.pp_turns.proofs.Aside.{aside_at_purse, aside_both, counts_losing}
 use Rattle.pp_turns.proofs.Placing.{absent_on, struck_on, unplaced_on}
 use Rattle.pp_turns.proofs.Purses.{found_none, full_purse, tidied}
@@ -295,7 +295,7 @@ module _ (z : Sizes) (share : ℕ) (g : TreeGoing) (s : Sought) (v u w : TreeVie
   }
 
   full_answers : (from : TreeView) (free : List ℕ) → IsUnder z share g v p from free → StandsThen w
-      → AnswersCall tree_meaning (map_sizes z) g.call g.races (pool_view from free share) (pool_view w p'.free.items share) Full
+      → Answered tree_meaning (map_sizes z) g.call g.races (pool_view from free share) (pool_view w p'.free.items share) Full g.lost
   full_answers from free x stands = let m = may_publish z g s from v at x.stands in let c = m.tries.counts in
       let low = (m.tries.untaken m.off).0 in
       let lost = sym (ap (λ (y : TreeTally). lost_of y) low.is) ∙ c.lost_is in
@@ -306,7 +306,8 @@ module _ (z : Sizes) (share : ℕ) (g : TreeGoing) (s : Sought) (v u w : TreeVie
       (counts_losing tree_reader z (tree_over z) g.call v w all low.memory low.lost) in
       let begins : BeginsWith q.free.items free = subst (BeginsWith q.free.items) same t.begins in
       let few : length free < 2 = subst (λ (f : List ℕ). length f < 2) same t.ran_out.short in
-      says_full tree_words tree_causes HoldsPairs (map_sizes z) g.call g.races from w free p'.free.items share v.known.own.start _ on
+      told_as tree_meaning (map_sizes z) g.call g.races (pool_view from free share) (pool_view w p'.free.items share) Full low.lost g.lost
+      lost (says_full tree_words tree_causes HoldsPairs (map_sizes z) g.call g.races from w free p'.free.items share v.known.own.start _ on
       (saw_last from v w since.went all.stepped long) (sizes ∙ x.carries.sizes) stands m.key m.value m.call
       (unplaced_on from v w since.went.number (m.tries.untaken m.off).1 all.unplaced) few
       (absent_on v.known.own.start m.key (log_of w.order) (log_of v.order) (log_begins w.order v.order all.stepped.order) m.absent)
@@ -318,7 +319,7 @@ module _ (z : Sizes) (share : ℕ) (g : TreeGoing) (s : Sought) (v u w : TreeVie
       (tidied tree_meaning z refl from l.between w free share 2 q (record p' { taken = q.taken; going = q.going }) (λ steps f. f)
       (went_on from v l.between since.went until.stepped) put_away.stepped tidies (omega (arith, few)) four))
       (full_purse tree_meaning z refl from v w free share p'.free.items few_retired short
-      (few_left share free q.free.items p'.free.items t.ran_out.still_short begins l.begins l.kept))
+      (few_left share free q.free.items p'.free.items t.ran_out.still_short begins l.begins l.kept)))
 
   pub full_turned : (g' : TreeGoing) → g' ≡ record g { next = Over; records = None } → (from : TreeView) (free : List ℕ)
       → IsUnder z share g v p from free → TreeTurned z share g g' v w p p' (Done Full)
@@ -335,5 +336,7 @@ module _ (z : Sizes) (share : ℕ) (g : TreeGoing) (s : Sought) (v u w : TreeVie
         struck = now;
         went = tt;
         goes_on = tt;
-        answered = full_answers;
+        answered = λ from free x stands. told_as tree_meaning (map_sizes z) g.call g.races (pool_view from free share)
+            (pool_view w p'.free.items share)
+            Full g.lost g'.lost (sym (ap (λ y. y.lost) over)) (full_answers from free x stands);
       }

@@ -11,7 +11,7 @@ use Rattle.pp_model.specs.declared.Turned.{Turned}
 use Rattle.pp_model.specs.declared.Turned.TheVariants.{On, Done}
 use Rattle.pp_model.specs.declared.steps.Step.{Step}
 use Rattle.pp_model.specs.Calls.{key_of}
-use Rattle.pp_model.specs.MapCalls.{AnswersCall, turn_lost, next_kind}
+use Rattle.pp_model.specs.MapCalls.{Answered, turn_lost, next_kind}
 use Rattle.pp_base.specs.declared.purse.Purse.{Purse}
 use Rattle.pp_base.specs.Named.{NamedStep, name_of}
 use Rattle.pp_base.specs.Passes.{IsAtRest}
@@ -52,7 +52,8 @@ some_after v u w a b some = let e = ap (λ (l : List Step). length l) (stretch_b
     (steps_made u w) in omega arith
 
 silent_kind : (k : ℕ) → IsSilent k → is_writing k ≡ false
-silent_kind k s = ⊎_elim (λ (lt : (2 ≤ k) × (k < 9)). low k lt.0 lt.1) (λ (e : k ≡ end_step). ap is_writing e) s
+silent_kind k s = ⊎_elim (λ (lt : (4 ≤ k) × (k < 9)). let least = lt.0 in low k (omega arith) lt.1)
+    (λ (e : k ≡ end_step). ap is_writing e) s
   where
     low : (k : ℕ) → 2 ≤ k → k < 9 → is_writing k ≡ false
     low zero a b = absurd (omega arith)
@@ -115,10 +116,10 @@ turned_by z share g h g' v u w p p' (Done answer) Known call races lost kind sta
   struck = a.struck;
   went = tt;
   goes_on = tt;
-  answered = λ from free k st. subst (λ (c : Call). AnswersCall tree_meaning (map_sizes z) c g.races (pool_view from free share)
-      (pool_view w p'.free.items share) answer) call (subst (λ (n : ℕ). AnswersCall tree_meaning (map_sizes z) h.call n
+  answered = λ from free k st. subst (λ (c : Call). Answered tree_meaning (map_sizes z) c g.races (pool_view from free share)
+      (pool_view w p'.free.items share) answer g'.lost) call (subst (λ (n : ℕ). Answered tree_meaning (map_sizes z) h.call n
       (pool_view from free share)
-      (pool_view w p'.free.items share) answer) races (a.answered from free (knows from free k) st));
+      (pool_view w p'.free.items share) answer g'.lost) races (a.answered from free (knows from free k) st));
 }
 
 -- where the last part is one of the same call

@@ -9,7 +9,7 @@ use Rattle.pp_model.specs.declared.Reply.{Reply}
 use Rattle.pp_model.specs.declared.Reply.TheVariants.{Took}
 use Rattle.pp_model.specs.declared.steps.Step.{Step}
 use Rattle.pp_model.specs.Calls.{changes}
-use Rattle.pp_model.specs.MapCalls.{LeftAlone, AnswersCall}
+use Rattle.pp_model.specs.MapCalls.{LeftAlone, Answered}
 use Rattle.pp_base.specs.declared.purse.Purse.{Purse}
 use Rattle.pp_calls.specs.PoolViews.{pool_view}
 use Rattle.pp_calls.specs.Steps.{StandsThen}
@@ -29,19 +29,17 @@ Leaves true z share records v w p p' = LooksAway v w p p'
 Leaves false z share records v w p p' = TidiesUp z share records v w p p'
 
 -- it is answered by a reply that changes nothing
-pub record SaysPlain (z : Sizes) (races : ℕ) (call : Call) (said : Reply) (from now : TreeView) : Type 0 where
+pub record SaysPlain (z : Sizes) (races : ℕ) (call : Call) (said : Reply) (lost : ℕ) (from now : TreeView) : Type 0 where
   pub start : ℕ
   pub memory : Walked
-  pub lost : ℕ
   pub since : Since tree_reader (map_sizes z) call start (losing memory lost) from now
   pub few : lost < races
   pub replied : Replied call said start from now
 
 -- Or by one that says what it changed. The leaf that it took is known by its steps.
-pub record SaysStruck (z : Sizes) (races : ℕ) (call : Call) (said : Reply) (from now : TreeView) : Type 0 where
+pub record SaysStruck (z : Sizes) (races : ℕ) (call : Call) (said : Reply) (lost : ℕ) (from now : TreeView) : Type 0 where
   pub start : ℕ
   pub memory : Walked
-  pub lost : ℕ
   pub early : ℕ
   pub later : List Step
   pub since : Since tree_reader (map_sizes z) call start (effected memory lost early later) from now
@@ -58,14 +56,15 @@ pub record GivesUp (z : Sizes) (races : ℕ) (call : Call) (turns : ℕ) (from n
   pub all : turns ≡ races
   pub unplaced : Unplaced from now
 
-abbrev pub SaysBy : Bool → Sizes → ℕ → Call → Reply → TreeView → TreeView → Type 0
-SaysBy true z races call said from now = SaysStruck z races call said from now
-SaysBy false z races call said from now = SaysPlain z races call said from now
+abbrev pub SaysBy : Bool → Sizes → ℕ → Call → Reply → ℕ → TreeView → TreeView → Type 0
+SaysBy true z races call said lost from now = SaysStruck z races call said lost from now
+SaysBy false z races call said lost from now = SaysPlain z races call said lost from now
 
-abbrev pub AnswersBy : Sizes → ℕ → Call → Answer → TreeView → TreeView → Type 0
-AnswersBy z races call (Said r) from now = SaysBy (changes r) z races call r from now
-AnswersBy z races call Full from now = ⊥
-AnswersBy z races call (Lost turns) from now = GivesUp z races call turns from now
+-- the answer, of a call that has lost so many turns
+abbrev pub AnswersBy : Sizes → ℕ → Call → Answer → ℕ → TreeView → TreeView → Type 0
+AnswersBy z races call (Said r) lost from now = SaysBy (changes r) z races call r lost from now
+AnswersBy z races call Full lost from now = ⊥
+AnswersBy z races call (Lost turns) lost from now = GivesUp z races call turns from now × (turns ≡ lost)
 
 -- how many free numbers a call may spend
 abbrev pub spends_of : Call → ℕ
@@ -74,10 +73,10 @@ spends_of (Insert k v) = 2
 spends_of (Remove k) = 0
 spends_of (Cut k v) = 0
 
--- A call that began at this view, with these free numbers, may be ended so.
-pub record MayEnd (z : Sizes) (share races : ℕ) (call : Call) (records : TwoRecords) (answer : Answer) (from now : TreeView)
-    (free : List ℕ) (p : Purse) : Type 0 where
-  pub by : AnswersBy z races call answer from now
+-- A call that began at this view, with these free numbers, and has lost so many turns, may be ended so.
+pub record MayEnd (z : Sizes) (share races : ℕ) (call : Call) (records : TwoRecords) (answer : Answer) (lost : ℕ)
+    (from now : TreeView) (free : List ℕ) (p : Purse) : Type 0 where
+  pub by : AnswersBy z races call answer lost from now
   pub last : SawLast from now
   pub sizes : now.known.sizes ≡ from.known.sizes
   pub kept : Kept free share p.free.items (out_of records + spends_of call)
@@ -87,5 +86,6 @@ pub record MayEnd (z : Sizes) (share races : ℕ) (call : Call) (records : TwoRe
 pub record Ends (z : Sizes) (share races : ℕ) (call : Call) (records : TwoRecords) (answer : Answer) (v w : TreeView)
     (p p' : Purse) : Type 0 where
   pub aside : Aside z v w
-  pub answered : (from : TreeView) (free : List ℕ) → MayEnd z share races call records answer from v free p → StandsThen w
-      → AnswersCall tree_meaning (map_sizes z) call races (pool_view from free share) (pool_view w p'.free.items share) answer
+  pub answered : (from : TreeView) (free : List ℕ) (lost : ℕ)
+      → MayEnd z share races call records answer lost from v free p → StandsThen w
+      → Answered tree_meaning (map_sizes z) call races (pool_view from free share) (pool_view w p'.free.items share) answer lost

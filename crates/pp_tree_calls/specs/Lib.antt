@@ -3,3 +3,4 @@ pub mod Going
 pub mod Begun
 pub mod Answers
 pub mod Turned
+pub mod Lone

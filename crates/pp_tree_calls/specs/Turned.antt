@@ -7,8 +7,9 @@ use Rattle.pp_model.specs.declared.Reply.{Reply}
 use Rattle.pp_model.specs.declared.Turned.{Turned}
 use Rattle.pp_model.specs.declared.steps.Step.{Step}
 use Rattle.pp_model.specs.Calls.{key_of, changes, reply_at}
-use Rattle.pp_model.specs.MapCalls.{AnswersCall, IfOn, IfDone, WentOn, took_effect}
-use Rattle.pp_rule.specs.Orders.{log_of, read_step}
+use Rattle.pp_model.specs.MapCalls.{Answered, IfOn, IfDone, WentOn, took_effect}
+use Rattle.pp_rule.specs.Lists.{IsIn}
+use Rattle.pp_rule.specs.Orders.{is_calm, log_of, read_step}
 use Rattle.pp_rule.specs.Views.{slot}
 use Rattle.pp_base.specs.declared.purse.Purse.{Purse}
 use Rattle.pp_base.specs.Passes.{IsAtRest}
@@ -54,7 +55,8 @@ pub record Part (z : Sizes) (share : ℕ) (Known : TreeView → List ℕ → Typ
   pub high : upper_at (spot_of g'.next) ≤ 2 ^ 64
   pub goes_on : IfOn result ((from : TreeView) (free : List ℕ) → Known from free → IsUnder z share g' w p' from free)
   pub answered : IfDone result (λ answer. (from : TreeView) (free : List ℕ) → Known from free → StandsThen w
-      → AnswersCall tree_meaning (map_sizes z) g.call g.races (pool_view from free share) (pool_view w p'.free.items share) answer)
+      → Answered tree_meaning (map_sizes z) g.call g.races (pool_view from free share) (pool_view w p'.free.items share) answer
+      g'.lost)
 
 -- The pass made steps that count for nothing in any call and write no link, and the same is known of it.
 pub record Idles (z : Sizes) (v w : TreeView) : Type 0 where
@@ -63,6 +65,7 @@ pub record Idles (z : Sizes) (v w : TreeView) : Type 0 where
   pub unplaced : Unplaced v w
   pub known : w.known ≡ v.known
   pub none : WriteNone (steps_made v w)
+  pub calm : (s : Step) → IsIn s (steps_made v w) → is_calm s.kind ≡ true
   pub walks : (call : Call) (t : TreeTally) → (memory_of t).coming ≡ false → Walks (map_sizes z) call t 0 v w
 
 -- A turn of it was lost just now, and its seek goes on so.
@@ -137,4 +140,5 @@ pub record TreeTurned (z : Sizes) (share : ℕ) (g g' : TreeGoing) (v w : TreeVi
   pub went : IfOn result (WentOn (going_of v.known g) (going_of w.known g'))
   pub goes_on : IfOn result ((from : TreeView) (free : List ℕ) → IsUnder z share g v p from free → IsUnder z share g' w p' from free)
   pub answered : IfDone result (λ answer. (from : TreeView) (free : List ℕ) → IsUnder z share g v p from free → StandsThen w
-      → AnswersCall tree_meaning (map_sizes z) g.call g.races (pool_view from free share) (pool_view w p'.free.items share) answer)
+      → Answered tree_meaning (map_sizes z) g.call g.races (pool_view from free share) (pool_view w p'.free.items share) answer
+      g'.lost)

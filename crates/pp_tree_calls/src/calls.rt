@@ -7,6 +7,7 @@ ghost use Rattle.pp_trees.specs.Edges.{TreeView};
 ghost use Rattle.pp_turns.specs.Passes.{IsResting};
 ghost use Rattle.pp_tree_calls.specs.Begun.{BeginsOn};
 ghost use Rattle.pp_tree_calls.specs.Going.{IsUnder};
+ghost use Rattle.pp_tree_calls.specs.Lone.{LoneAt, LoneTurn};
 ghost use Rattle.pp_tree_calls.specs.Turned.{TreeTurned};
 
 use crate::going::{Next, TreeGoing};
@@ -32,7 +33,8 @@ impl TreeGoing {
         }
     }
 
-    /// Makes the call's next turn.
+    /// Makes the call's next turn. A pass that is alone on its pool loses none where no record that could be reached was removed as
+    /// the call began, and none is after the call.
     pub fn turn(&mut self, pool: &Pool<TreeShape>, pass: &mut Pass<TreeShape>) -> Turned
         requires fits { Fits pool.now.table.shared.table_id pool.now.layout pass.old.seat }
         requires under { (from : TreeView) × ((free : List ℕ)
@@ -40,6 +42,8 @@ impl TreeGoing {
         ensures same { IsSame pass.old.seat pass.new.seat }
         ensures turned { TreeTurned pool.now.layout pass.old.share self.old self.new (view pass.old.seat) (view pass.new.seat)
             pass.old.purse pass.new.purse result }
+        ensures alone { LoneAt pool.now.layout self.old (view pass.old.seat)
+            → LoneTurn pool.now.layout self.old self.new (view pass.new.seat) result }
         ensures resting { IfDone result (λ _. IsResting pass.new) }
     {
         match self.next {

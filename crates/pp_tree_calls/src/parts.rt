@@ -1,4 +1,4 @@
-//! The last parts of a call's turns.
+//! The last parts of a call's turns. A pass that is alone on its pool loses no turn here, and has nothing to help with (`alone`).
 
 ghost use Rattle.std.specs.Prelude.{◌≡◌, ◌<◌, ◌≤◌, ◌^◌, true, false, ℕ, None};
 ghost use Rattle.pp_base.specs.Passes.{known, view, Fits, IsSame, IsAtRest};
@@ -6,11 +6,15 @@ ghost use Rattle.pp_model.specs.Calls.{key_of, Takes};
 ghost use Rattle.pp_model.specs.MapCalls.{IfDone};
 ghost use Rattle.pp_rule.specs.Views.{slot, value_of};
 ghost use Rattle.pp_link.specs.Links.{word_of, flag_bit};
+ghost use Rattle.pp_seek.specs.Lone.{LoneSought};
 ghost use Rattle.pp_seek.specs.Seeking.{Seeks as IsSeek};
+ghost use Rattle.pp_trees.specs.Clean.{IsBare};
+ghost use Rattle.pp_trees.specs.Lone.{words_of};
 ghost use Rattle.pp_trees.specs.Trees.{inf0};
 ghost use Rattle.pp_turns.specs.Passes.{IsResting};
 ghost use Rattle.pp_tree_calls.specs.Answers.{Ends};
 ghost use Rattle.pp_tree_calls.specs.Going.{is_look, upper_at, Goes};
+ghost use Rattle.pp_tree_calls.specs.Lone.{LoneTurn};
 ghost use Rattle.pp_tree_calls.specs.Purses.{HasOut};
 ghost use Rattle.pp_tree_calls.specs.Turned.{Part, HasLost, HasMissed, HasArrived, HasEnded};
 
@@ -35,7 +39,7 @@ fn looks(call: Call) -> bool
     }
 }
 
-/// Ends a call with this answer.
+/// Ends a call with this answer. A pass that is alone on its pool leaves no removed record that can be reached, if there was none.
 pub fn end(
     going: &mut TreeGoing,
     pool: &Pool<TreeShape>,
@@ -51,6 +55,8 @@ pub fn end(
     ensures done { result ≡ Turned.Done answer }
     ensures ended { Ends pool.now.layout pass.old.share going.old.races going.old.call going.old.records answer
         (view pass.old.seat) (view pass.new.seat) pass.old.purse pass.new.purse }
+    ensures alone { pool.now.layout.passes ≡ 1 → IsBare pool.now.layout (words_of pool.now.layout (view pass.old.seat))
+        → IsBare pool.now.layout (words_of pool.now.layout (view pass.new.seat)) }
     ensures resting { IsResting pass.new }
 {
     let looks = looks(going.call);
@@ -136,6 +142,8 @@ fn open_removal(
     ensures same { IsSame pass.old.seat pass.new.seat }
     ensures part { Part pool.now.layout pass.old.share (HasArrived pool.now.layout pass.old.share going.old sought (view pass.old.seat)
         pass.old.purse) going.old going.new (view pass.old.seat) (view pass.new.seat) pass.new.purse result }
+    ensures alone { LoneSought pool.now.layout sought (view pass.old.seat)
+        → LoneTurn pool.now.layout going.old going.new (view pass.new.seat) result }
     ensures resting { IfDone result (λ _. IsResting pass.new) }
 {
     if sought.edge.tag() {
@@ -159,6 +167,8 @@ fn arrive_get(
     ensures same { IsSame pass.old.seat pass.new.seat }
     ensures part { Part pool.now.layout pass.old.share (HasArrived pool.now.layout pass.old.share going.old sought (view pass.old.seat)
         pass.old.purse) going.old going.new (view pass.old.seat) (view pass.new.seat) pass.new.purse result }
+    ensures alone { LoneSought pool.now.layout sought (view pass.old.seat)
+        → LoneTurn pool.now.layout going.old going.new (view pass.new.seat) result }
     ensures resting { IfDone result (λ _. IsResting pass.new) }
 {
     if !sought.equal {
@@ -186,6 +196,8 @@ fn arrive_insert(
     ensures same { IsSame pass.old.seat pass.new.seat }
     ensures part { Part pool.now.layout pass.old.share (HasArrived pool.now.layout pass.old.share going.old sought (view pass.old.seat)
         pass.old.purse) going.old going.new (view pass.old.seat) (view pass.new.seat) pass.new.purse result }
+    ensures alone { LoneSought pool.now.layout sought (view pass.old.seat)
+        → LoneTurn pool.now.layout going.old going.new (view pass.new.seat) result }
     ensures resting { IfDone result (λ _. IsResting pass.new) }
 {
     if sought.edge.flag() {
@@ -218,6 +230,8 @@ fn arrive_remove(
     ensures same { IsSame pass.old.seat pass.new.seat }
     ensures part { Part pool.now.layout pass.old.share (HasArrived pool.now.layout pass.old.share going.old sought (view pass.old.seat)
         pass.old.purse) going.old going.new (view pass.old.seat) (view pass.new.seat) pass.new.purse result }
+    ensures alone { LoneSought pool.now.layout sought (view pass.old.seat)
+        → LoneTurn pool.now.layout going.old going.new (view pass.new.seat) result }
     ensures resting { IfDone result (λ _. IsResting pass.new) }
 {
     if !sought.equal {
@@ -244,6 +258,8 @@ fn arrive_cut(
     ensures same { IsSame pass.old.seat pass.new.seat }
     ensures part { Part pool.now.layout pass.old.share (HasArrived pool.now.layout pass.old.share going.old sought (view pass.old.seat)
         pass.old.purse) going.old going.new (view pass.old.seat) (view pass.new.seat) pass.new.purse result }
+    ensures alone { LoneSought pool.now.layout sought (view pass.old.seat)
+        → LoneTurn pool.now.layout going.old going.new (view pass.new.seat) result }
     ensures resting { IfDone result (λ _. IsResting pass.new) }
 {
     if !sought.equal {
@@ -298,6 +314,8 @@ pub fn arrive(
     ensures same { IsSame pass.old.seat pass.new.seat }
     ensures part { Part pool.now.layout pass.old.share (HasArrived pool.now.layout pass.old.share going.old sought (view pass.old.seat)
         pass.old.purse) going.old going.new (view pass.old.seat) (view pass.new.seat) pass.new.purse result }
+    ensures alone { going.old.struck ≡ false → LoneSought pool.now.layout sought (view pass.old.seat)
+        → LoneTurn pool.now.layout going.old going.new (view pass.new.seat) result }
     ensures resting { IfDone result (λ _. IsResting pass.new) }
 {
     if going.struck {

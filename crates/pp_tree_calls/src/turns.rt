@@ -1,11 +1,14 @@
-//! The turns of a call, one function for each kind.
+//! The turns of a call, one function for each kind. None is lost of a pass that is alone on its pool, where nothing was left to help
+//! with as the call began: its seek meets no flagged edge, and each of its exchanges finds the word that it expects (`alone`).
 
 ghost use Rattle.std.specs.Prelude.{◌≡◌, ◌<◌, ℕ, List, None, Some};
 ghost use Rattle.pp_base.specs.Passes.{known, view, Fits, IsSame, IsAtRest};
 ghost use Rattle.pp_model.specs.MapCalls.{IfDone};
+ghost use Rattle.pp_seek.specs.Lone.{LoneSought};
 ghost use Rattle.pp_trees.specs.Edges.{TreeView};
 ghost use Rattle.pp_turns.specs.Passes.{IsResting};
 ghost use Rattle.pp_tree_calls.specs.Going.{IsUnder};
+ghost use Rattle.pp_tree_calls.specs.Lone.{LoneAt, LoneTurn};
 ghost use Rattle.pp_tree_calls.specs.Purses.{PutsAway};
 ghost use Rattle.pp_tree_calls.specs.Turned.{TreeTurned};
 
@@ -35,6 +38,8 @@ pub fn seek_on(
     ensures same { IsSame pass.old.seat pass.new.seat }
     ensures turned { TreeTurned pool.now.layout pass.old.share going.old going.new (view pass.old.seat) (view pass.new.seat)
         pass.old.purse pass.new.purse result }
+    ensures alone { LoneAt pool.now.layout going.old (view pass.old.seat)
+        → LoneTurn pool.now.layout going.old going.new (view pass.new.seat) result }
     ensures resting { IfDone result (λ _. IsResting pass.new) }
 {
     let mut seek = seek;
@@ -62,6 +67,8 @@ pub fn flag_on(
     ensures same { IsSame pass.old.seat pass.new.seat }
     ensures turned { TreeTurned pool.now.layout pass.old.share going.old going.new (view pass.old.seat) (view pass.new.seat)
         pass.old.purse pass.new.purse result }
+    ensures alone { LoneAt pool.now.layout going.old (view pass.old.seat)
+        → LoneTurn pool.now.layout going.old going.new (view pass.new.seat) result }
     ensures resting { IfDone result (λ _. IsResting pass.new) }
 {
     match flag_turn(pool, pass, sought) {
@@ -90,6 +97,8 @@ pub fn tag_on(
     ensures same { IsSame pass.old.seat pass.new.seat }
     ensures turned { TreeTurned pool.now.layout pass.old.share going.old going.new (view pass.old.seat) (view pass.new.seat)
         pass.old.purse pass.new.purse result }
+    ensures alone { LoneAt pool.now.layout going.old (view pass.old.seat)
+        → LoneTurn pool.now.layout going.old going.new (view pass.new.seat) result }
     ensures resting { IfDone result (λ _. IsResting pass.new) }
 {
     match tag_turn(pool, pass, sought, side) {
@@ -117,6 +126,8 @@ pub fn splice_on(
     ensures same { IsSame pass.old.seat pass.new.seat }
     ensures turned { TreeTurned pool.now.layout pass.old.share going.old going.new (view pass.old.seat) (view pass.new.seat)
         pass.old.purse pass.new.purse result }
+    ensures alone { LoneAt pool.now.layout going.old (view pass.old.seat)
+        → LoneTurn pool.now.layout going.old going.new (view pass.new.seat) result }
     ensures resting { IfDone result (λ _. IsResting pass.new) }
 {
     if !splice_turn(pool, pass, sought, side, sibling) {
@@ -175,6 +186,8 @@ fn put_in(
     ensures same { IsSame pass.old.seat pass.new.seat }
     ensures turned { TreeTurned pool.now.layout pass.old.share (record going.old { records = Some records }) going.new
         (view pass.old.seat) (view pass.new.seat) pass.old.purse pass.new.purse result }
+    ensures alone { LoneSought pool.now.layout sought (view pass.old.seat)
+        → LoneTurn pool.now.layout going.old going.new (view pass.new.seat) result }
     ensures resting { IfDone result (λ _. IsResting pass.new) }
 {
     let (key, value) = pair_of(going.call);
@@ -209,6 +222,8 @@ pub fn publish_on(
     ensures same { IsSame pass.old.seat pass.new.seat }
     ensures turned { TreeTurned pool.now.layout pass.old.share going.old going.new (view pass.old.seat) (view pass.new.seat)
         pass.old.purse pass.new.purse result }
+    ensures alone { LoneAt pool.now.layout going.old (view pass.old.seat)
+        → LoneTurn pool.now.layout going.old going.new (view pass.new.seat) result }
     ensures resting { IfDone result (λ _. IsResting pass.new) }
 {
     let had = going.records.take();

@@ -1,31 +1,29 @@
 -- The exchange of an insert, after its records were written.
-use Rattle.std.proofs.Common.{◌≡◌, ◌≢◌, ◌⊎◌, ℕ, zero, suc, ◌+◌, ◌*◌, ◌%◌, ◌<◌, ◌≤◌, Bool, true, false, List, [], ◌∷◌, ◌++◌}
-use Rattle.std.proofs.Common.{length, refl, sym, ap, ◌∙◌, subst}
-use Rattle.std.proofs.Common.{⊎_elim, inl, inr, arith, append_assoc, append-nil}
+use Rattle.std.proofs.Common.{◌≡◌, ◌≢◌, ℕ, zero, suc, ◌+◌, ◌*◌, ◌%◌, ◌<◌, true, List, [], ◌∷◌}
+use Rattle.std.proofs.Common.{refl, sym, ap, ◌∙◌, subst}
+use Rattle.std.proofs.Common.{⊎_elim, inl, inr, arith}
 use mathlib.Core.Option.{some, some-injective, some-ne-none}
 use lib.ListN.{get_elem?}
 use Rattle.pp_link.specs.declared.layout.Sizes.{Sizes}
-use Rattle.pp_link.specs.Links.{word_of, target, flag_bit, tag_bit, leaf_bit, invalid_bit}
+use Rattle.pp_link.specs.Links.{word_of, flag_bit, tag_bit, leaf_bit, invalid_bit}
 use Rattle.pp_link.specs.Places.{cell_place}
 use Rattle.pp_model.specs.declared.Call.{Call}
 use Rattle.pp_model.specs.declared.Call.TheVariants.{Insert}
 use Rattle.pp_model.specs.declared.Reply.TheVariants.{Added}
-use Rattle.pp_model.specs.Calls.{key_of}
 use Rattle.pp_rule.specs.declared.views.PrivateRecord.{PrivateRecord}
 use Rattle.pp_rule.specs.Lists.{IsIn, remove_at}
-use Rattle.pp_rule.specs.Orders.{write_step, read_step}
+use Rattle.pp_rule.specs.Orders.{read_step}
 use Rattle.pp_rule.specs.Steps.{MadeQuietStep}
 use Rattle.pp_rule.specs.Views.{slot, halves, value_of}
 use Rattle.pp_rule.proofs.Made.{known_after}
-use Rattle.pp_rule.proofs.Put.{in_cases, in_either}
-use Rattle.pp_base.specs.declared.source.Place.{Place}
+use Rattle.pp_rule.proofs.Put.{in_cases}
 use Rattle.pp_base.specs.declared.source.Place.TheVariants.{Walk}
 use Rattle.pp_base.specs.Named.{NamedStep, misses}
 use Rattle.pp_base.specs.declared.purse.Purse.{Purse}
 use Rattle.pp_base.specs.Passes.{IsPassOf, IsAtRest}
 use Rattle.pp_pool.specs.Taken.{one_fewer_out}
 use Rattle.pp_base.specs.Sources.{side_number, source_place, IsReadable}
-use Rattle.pp_edges.specs.Edging.{MayPublishAt, PublishedBy, Adds, Missed}
+use Rattle.pp_edges.specs.Edging.{MayPublishAt, PublishedBy}
 use Rattle.pp_edges.specs.declared.edges.Published.{Published}
 use Rattle.pp_edges.specs.declared.edges.Published.TheVariants as published
 use Rattle.pp_edges.proofs.Splicing.{readable_at}
@@ -36,9 +34,9 @@ use Rattle.pp_trees.specs.Edges.{TreeView, publish_step}
 use Rattle.pp_turns.specs.Turns.{Unplaced, Struck}
 use Rattle.pp_turns.proofs.Placing.{unplaced_on, struck_at, struck_on}
 use Rattle.pp_tree_turns.specs.Turning.{Names}
-use Rattle.pp_tree_turns.specs.Filling.{Has, OwnsAlike, Wrote, Filled, FilledOver, PublishesNext, AreBefore, Publishes}
-use Rattle.pp_tree_turns.specs.Filling.{NotPublished, PublishedTo}
-use Rattle.pp_tree_turns.proofs.Seeks.{step_names, names_both, names_as}
+use Rattle.pp_tree_turns.specs.Filling.{Has, OwnsAlike, Wrote, Filled, FilledOver, PublishesNext, AreBefore}
+use Rattle.pp_tree_turns.specs.Filling.{PublishedTo}
+use Rattle.pp_tree_turns.proofs.Seeks.{step_names, names_both}
 use Rattle.pp_tree_turns.proofs.Exchanges.{quiet_names, quiet_unplaced, parent_place, walk_far}
 use Rattle.pp_tree_turns.proofs.Written.{wrote_both}
 
@@ -51,7 +49,7 @@ among_others (x ∷ xs) zero (suc j) a ne at = (j, at)
 among_others (x ∷ xs) (suc i) zero a ne at = (0, at)
 among_others (x ∷ xs) (suc i) (suc j) a ne at = let r = among_others xs i j a (λ e. ne (ap suc e)) at in (suc r.0, r.1)
 
-plain_leaf : (w : ℕ) → invalid_bit w ≡ 0 → leaf_bit w ≡ 1 → flag_bit w ≡ 0 → tag_bit w ≡ 0 → w % 16 ≡ 8
+pub plain_leaf : (w : ℕ) → invalid_bit w ≡ 0 → leaf_bit w ≡ 1 → flag_bit w ≡ 0 → tag_bit w ≡ 0 → w % 16 ≡ 8
 plain_leaf w a b c d = omega arith
 
 module _ (z : Sizes) (q q' : TreePass) (s : Sought) (k v : ℕ) (may : PublishesNext q s k v) (alike : OwnsAlike q q') where

@@ -1,30 +1,28 @@
 -- What the turns after a seek count.
-use Rattle.std.proofs.Common.{◌≡◌, ◌≢◌, ◌⊎◌, ℕ, ◌+◌, ◌*◌, ◌<◌, ◌≤◌, Bool, true, false, cond, List, [], ◌∷◌, ◌++◌, map, length}
+use Rattle.std.proofs.Common.{◌≡◌, ◌≢◌, ℕ, ◌+◌, ◌*◌, ◌<◌, Bool, true, false, cond, List, [], ◌∷◌, ◌++◌, map}
 use Rattle.std.proofs.Common.{refl, sym, ap, ◌∙◌}
-use Rattle.std.proofs.Common.{subst, ⊎_elim, inl, inr, arith, ne_eqb, eq-eqb, lt-ltb, append-nil, append_assoc}
-use Rattle.std.specs.Prelude.{◌||◌, ◌&&◌, nat_eq, nat_lt, nat_le, not}
+use Rattle.std.proofs.Common.{subst, ⊎_elim, arith, lt-ltb, append_assoc}
+use Rattle.std.specs.Prelude.{◌||◌, nat_eq, nat_lt, nat_le, not}
 use Rattle.std.proofs.Math.Bool.{false≢true}
 use Rattle.pp_link.specs.declared.layout.Sizes.{Sizes}
-use Rattle.pp_link.specs.declared.link.Link.{Link}
 use Rattle.pp_link.specs.Links.{word_of, target, invalid_bit}
 use Rattle.pp_link.specs.Places.{cell_place}
 use Rattle.pp_model.specs.declared.Call.{Call}
 use Rattle.pp_model.specs.declared.steps.Step.{Step}
 use Rattle.pp_model.specs.Pass.{MapSizes}
-use Rattle.pp_rule.specs.Causes.{pool_sizes}
 use Rattle.pp_rule.specs.Lists.{IsIn}
-use Rattle.pp_rule.specs.Orders.{write_step, read_step, clear_step, guard_step, unguard_step}
+use Rattle.pp_rule.specs.Orders.{write_step, read_step}
 use Rattle.pp_rule.proofs.Put.{in_first, in_later, in_either}
 use Rattle.pp_base.specs.Named.{NamedStep, name_of, guards, unguards, detaches, misses, clears}
 use Rattle.pp_shelf.specs.Runs.{map_sizes, steps_made}
 use Rattle.pp_seek.specs.declared.seek.Sought.{Sought}
 use Rattle.pp_seek.specs.Trails.{reads}
-use Rattle.pp_trees.specs.Edges.{TreeView, publish_step, flag_step, tag_step}
+use Rattle.pp_trees.specs.Edges.{TreeView, publish_step, flag_step}
 use Rattle.pp_turns.specs.Tallies.{losing, effected, memory_of, counting, tally}
 use Rattle.pp_turns.specs.Turns.{Ran}
-use Rattle.pp_turns.proofs.Tallies.{tally_append, tally_one, tally_later}
+use Rattle.pp_turns.proofs.Tallies.{tally_append, tally_later}
 use Rattle.pp_tree_turns.specs.Walked.{Walked, after_key, tree_next, tree_loses, tree_strikes, tree_reader, walked, one_if}
-use Rattle.pp_tree_turns.specs.Walked.{lost_by, TreeTally, moved}
+use Rattle.pp_tree_turns.specs.Walked.{lost_by, TreeTally}
 use Rattle.pp_tree_turns.specs.Causes.{flagged_leaf, ReadsValueOf, EndedElsewhere}
 use Rattle.pp_tree_turns.specs.Turning.{Names, Walks}
 use Rattle.pp_tree_turns.specs.Exchanging.{MissesEdge, flags, FlagsLeaf, tags, TagsEdge, AreAside, MissesPath, TakesPath}

@@ -1,43 +1,39 @@
 -- What the turn counts and tells at which a seek ends.
-use Rattle.std.proofs.Common.{◌≡◌, ◌≢◌, ◌⊎◌, ℕ, ◌+◌, ◌*◌, ◌<◌, ◌≤◌, Bool, true, false, cond, List, [], ◌∷◌, ◌++◌, map, length}
+use Rattle.std.proofs.Common.{◌≡◌, ℕ, ◌+◌, Bool, true, false, List, [], ◌∷◌, ◌++◌, map}
 use Rattle.std.proofs.Common.{refl, sym, ap, ◌∙◌}
-use Rattle.std.proofs.Common.{subst, ⊎_elim, inl, inr, arith, ne_eqb, eq-eqb, Option, Some, None, append-nil}
-use Rattle.std.specs.Prelude.{◌||◌, ◌&&◌, nat_eq, nat_lt, nat_le, not}
+use Rattle.std.proofs.Common.{subst, ⊎_elim, inr, arith, eq-eqb, Option, append-nil}
+use Rattle.std.specs.Prelude.{not}
 use Rattle.pp_link.specs.declared.layout.Sizes.{Sizes}
-use Rattle.pp_link.specs.Links.{word_of, invalid_bit}
-use Rattle.pp_link.specs.Places.{head_place, cell_place}
+use Rattle.pp_link.specs.Links.{word_of}
+use Rattle.pp_link.specs.Places.{cell_place}
 use Rattle.pp_model.specs.declared.Call.{Call}
 use Rattle.pp_model.specs.declared.Change.{Change}
 use Rattle.pp_model.specs.declared.Placed.{Placed}
-use Rattle.pp_model.specs.declared.Reply.{Reply}
 use Rattle.pp_model.specs.declared.steps.Step.{Step}
-use Rattle.pp_model.specs.Calls.{key_of, reply, reply_at, changes}
-use Rattle.pp_model.specs.History.{after}
-use Rattle.pp_model.specs.Pass.{MapSizes, seen_first}
+use Rattle.pp_model.specs.Calls.{key_of, reply_at, changes}
+use Rattle.pp_model.specs.Pass.{seen_first}
 use Rattle.pp_rule.specs.declared.views.Halves.{Halves}
-use Rattle.pp_rule.specs.declared.views.LoggedStep.{LoggedStep}
 use Rattle.pp_rule.specs.Lists.{IsIn, BeginsWith}
-use Rattle.pp_rule.specs.Orders.{log_of, placed_by}
+use Rattle.pp_rule.specs.Orders.{log_of}
 use Rattle.pp_rule.specs.Steps.{MadeStep, MadeQuietStep}
 use Rattle.pp_rule.specs.Views.{slot}
 use Rattle.pp_rule.proofs.Put.{in_cases, in_nil}
 use Rattle.pp_rule.proofs.Made.{placed_after}
 use Rattle.pp_base.specs.Named.{NamedStep, name_of, loads, announces}
 use Rattle.pp_base.specs.Sources.{side_number}
-use Rattle.pp_calls.specs.Steps.{Stepped, HasOwn, StandsThen}
 use Rattle.pp_calls.proofs.Growing.{stepped_one}
 use Rattle.pp_shelf.specs.Runs.{map_sizes, steps_made}
 use Rattle.pp_seek.specs.declared.seek.Spot.{Spot}
 use Rattle.pp_seek.specs.declared.seek.Sought.{Sought}
-use Rattle.pp_seek.specs.Trails.{Trail, SameRest, reads}
-use Rattle.pp_seek.specs.Seeking.{Enters, Ends, EndsAtLeaf}
+use Rattle.pp_seek.specs.Trails.{reads}
+use Rattle.pp_seek.specs.Seeking.{Enters, EndsAtLeaf}
 use Rattle.pp_seek.proofs.Trailing.{trail_one, rest_by}
 use Rattle.pp_trees.specs.Edges.{TreeView, end_step}
 use Rattle.pp_trees.specs.declared.own.TreeOwn.{TreeOwn}
 use Rattle.pp_trees.specs.Searches.{TreePass}
-use Rattle.pp_trees.specs.Seeks.{Ended, EndsGoing, Settled, ended_pass, found_at}
+use Rattle.pp_trees.specs.Seeks.{Ended, ended_pass, found_at}
 use Rattle.pp_turns.specs.Tallies.{memory_of}
-use Rattle.pp_turns.specs.Turns.{Ran, Unplaced, Replied}
+use Rattle.pp_turns.specs.Turns.{Unplaced, Replied}
 use Rattle.pp_turns.proofs.Stretches.{stretch_both, stepped_steps}
 use Rattle.pp_rule.proofs.Histories.{log_begins}
 use Rattle.pp_model.specs.declared.Pair.{Pair}
@@ -45,7 +41,7 @@ use Rattle.pp_model.specs.FiniteMap.{find}
 use Rattle.pp_trees.specs.Trees.{IsRight}
 use Rattle.pp_calls.proofs.Growing.{begins_long}
 use Rattle.pp_turns.proofs.Placing.{after_longer, unplaced_made, unplaced_on, replied_on, replied_later}
-use Rattle.pp_tree_turns.specs.Walked.{Walked, tree_next, tree_loses, tree_strikes, tree_reader, walked, one_if, lost_by, TreeTally, moved}
+use Rattle.pp_tree_turns.specs.Walked.{Walked, tree_strikes, walked, one_if, lost_by, TreeTally}
 use Rattle.pp_tree_turns.specs.Turning.{Names, Walks}
 use Rattle.pp_tree_turns.proofs.Reading.{AreQuiet}
 use Rattle.pp_tree_turns.proofs.Seeks.{trail_names, step_names, names_both, names_as, names_ran, load_walked, load_lost, loaded}

@@ -1,8 +1,8 @@
 -- What the turns after a seek make of a pass.
 use Rattle.std.specs.Prelude.{◌&&◌}
-use Rattle.std.proofs.Common.{◌≡◌, ◌≢◌, ◌⊎◌, ℕ, zero, suc, ◌+◌, ◌*◌, ◌^◌, ◌/◌, ◌%◌, ◌<◌, ◌≤◌, Bool, true, false, cond, List, []}
+use Rattle.std.proofs.Common.{◌≡◌, ℕ, zero, suc, ◌+◌, ◌*◌, ◌/◌, ◌%◌, ◌<◌, ◌≤◌, Bool, true, false, cond, List, []}
 use Rattle.std.proofs.Common.{◌∷◌, ◌++◌, length, bit_or}
-use Rattle.std.proofs.Common.{refl, sym, ap, ◌∙◌, subst, ⊎_elim, inl, inr, arith, append-nil, append_assoc, map}
+use Rattle.std.proofs.Common.{refl, sym, ap, ◌∙◌, subst, ⊎_elim, inl, inr, arith, append-nil, map}
 use Rattle.std.proofs.Math.ListN.{length-map}
 use Rattle.std.specs.Prelude.{◌||◌, nat_eq}
 use Rattle.std.proofs.Math.Decide.{ℕ_discrete}
@@ -13,20 +13,17 @@ use Rattle.pp_link.specs.declared.link.Link.{Link}
 use Rattle.pp_link.specs.Links.{word_of, bit, target, flag_bit, tag_bit, invalid_bit, leaf_bit}
 use Rattle.pp_link.specs.Places.{cell_place, frontier_place}
 use Rattle.pp_model.specs.declared.Call.{Call}
-use Rattle.pp_model.specs.declared.Change.{Change}
-use Rattle.pp_model.specs.declared.Placed.{Placed}
 use Rattle.pp_model.specs.declared.Reply.TheVariants.{Took}
 use Rattle.pp_model.specs.Calls.{key_of}
-use Rattle.pp_rule.specs.declared.views.Halves.{Halves}
 use Rattle.pp_rule.specs.Lists.{IsIn}
 use Rattle.pp_rule.specs.declared.views.Chain.{Chain}
 use Rattle.pp_rule.specs.Opening.{opening_words}
-use Rattle.pp_rule.specs.Orders.{log_of, placed_by, clear_step, write_step}
-use Rattle.pp_rule.specs.Steps.{MadeStep, MadeQuietStep, clearing}
-use Rattle.pp_rule.specs.Views.{slot, value_of, halves}
+use Rattle.pp_rule.specs.Orders.{clear_step, write_step}
+use Rattle.pp_rule.specs.Steps.{MadeQuietStep, clearing}
+use Rattle.pp_rule.specs.Views.{slot, value_of}
 use Rattle.pp_rule.proofs.Made.{placed_after, known_after, order_begins}
 use Rattle.pp_rule.proofs.Histories.{begins_through}
-use Rattle.pp_rule.proofs.Put.{in_right, in_first, in_left}
+use Rattle.pp_rule.proofs.Put.{in_right, in_first}
 use Rattle.pp_rule.proofs.Tagging.{tag_set}
 use Rattle.pp_base.specs.declared.source.Place.{Place}
 use Rattle.pp_base.specs.declared.source.Place.TheVariants.{Head, Walk}
@@ -36,7 +33,6 @@ use Rattle.pp_base.specs.Named.{NamedStep, guards, unguards, detaches, misses, M
 use Rattle.pp_base.specs.declared.purse.Purse.{Purse}
 use Rattle.pp_base.specs.Passes.{known, view, in_hand_of, IsAtRest}
 use Rattle.pp_base.specs.Sources.{side_number, source_place, learning_at}
-use Rattle.pp_calls.specs.Steps.{HasOwn, StandsThen}
 use Rattle.pp_calls.proofs.Growing.{stepped_made}
 use Rattle.pp_calls.proofs.Remaining.{stands_one, stands_made}
 use Rattle.pp_detached.specs.Gone.{AreGone}
@@ -44,9 +40,9 @@ use Rattle.pp_purse.specs.Steps.{is_purse_step, PurseSteps}
 use Rattle.pp_purse.proofs.Stretches.{none_made, flushed_purse}
 use Rattle.pp_unlink.specs.Unlinking.{MayFlush, Exchanges, Misses}
 use Rattle.pp_hazard.specs.Reading.{ReadValue}
-use Rattle.pp_edges.specs.Edging.{Missed, HoldsLeaf, Removes, MaySpliceAt, HasPathInHand}
+use Rattle.pp_edges.specs.Edging.{Missed, Removes, HasPathInHand}
 use Rattle.pp_seek.specs.declared.seek.Sought.{Sought}
-use Rattle.pp_seek.specs.Trails.{SameCall, SameRest, reads}
+use Rattle.pp_seek.specs.Trails.{SameRest, reads}
 use Rattle.pp_seek.specs.Seeking.{IsSought}
 use Rattle.pp_unlink.specs.Invalidation.{Flushed}
 use Rattle.pp_rule.specs.Steps.{learning, with_walk}
@@ -56,15 +52,14 @@ use Rattle.pp_trees.specs.declared.own.TreeOwn.{TreeOwn}
 use Rattle.pp_trees.specs.declared.own.Passed.{Passed}
 use Rattle.pp_trees.specs.Trees.{side, across, root_head}
 use Rattle.pp_trees.specs.Sentinels.{sentinel_field, has_mark}
-use Rattle.pp_trees.specs.TaggedPaths.{Joined, Taken}
 use Rattle.pp_trees.specs.Searches.{TreePass, forget_word, tree_chain}
-use Rattle.pp_trees.specs.Edges.{TreeView, tag_step, flagged_pass, tagged_pass, Tags}
+use Rattle.pp_trees.specs.Edges.{TreeView, flagged_pass, tagged_pass, Tags}
 use Rattle.pp_trees.proofs.Seeking.{joined_more}
 use Rattle.pp_turns.specs.Turns.{Unplaced, Struck}
 use Rattle.pp_turns.proofs.Placing.{struck_at, struck_later, unplaced_on, unplaced_made}
 use Rattle.pp_turns.proofs.Stretches.{steps_named}
 use Rattle.pp_tree_turns.specs.Turning.{Names}
-use Rattle.pp_tree_turns.specs.Exchanging.{OnPath, FlagsNext, TagsNext, SplicesNext, MissesEdge, flags, FlagsLeaf, tags, TagsEdge}
+use Rattle.pp_tree_turns.specs.Exchanging.{OnPath, FlagsNext, TagsNext, SplicesNext, MissesEdge, flags, FlagsLeaf, TagsEdge}
 use Rattle.pp_tree_turns.specs.Exchanging.{AreAside, MissesPath, TakesPath}
 use Rattle.pp_tree_turns.proofs.Seeks.{step_names, names_both}
 
@@ -307,7 +302,7 @@ module _ (z : Sizes) (s : Sought) (side : Side) (place found : ℕ) (v w : TreeV
       })
 
 -- The steps of a splice.
-flush_names : (z : Sizes) (v b : TreeView) → length v.known.chains ≤ 4 → MayFlush 2 z v b
+pub flush_names : (z : Sizes) (v b : TreeView) → length v.known.chains ≤ 4 → MayFlush 2 z v b
     → (names : List NamedStep) × PurseSteps z names v b
 flush_names z v b few f = dite (ℕ_discrete (length v.known.chains) 4) (λ full. flushed_purse 2 z 4 v b (f.full full))
     (λ ne. ([], none_made z v b (f.few (omega arith))))

@@ -5,3 +5,7 @@ pub mod Exchanges
 pub mod Written
 pub mod Adding
 pub mod Counting
+pub mod LoneTurns
+pub mod LoneTags
+pub mod LoneSplices
+pub mod LonePublishes

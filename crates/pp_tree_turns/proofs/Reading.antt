@@ -1,6 +1,6 @@
 -- How a tree's reader counts the steps of a turn, by their names.
 use Rattle.std.proofs.Common.{◌≡◌, ◌≢◌, ◌⊎◌, ℕ, ◌+◌, ◌*◌, ◌<◌, ◌≤◌, Bool, true, false, cond, List, [], ◌∷◌, ◌++◌, map, refl, sym, ap, ◌∙◌}
-use Rattle.std.proofs.Common.{subst, ⊎_elim, inl, inr, arith, eqb-true, ltb-true, ne_eqb, eq-eqb, append-nil, append_assoc}
+use Rattle.std.proofs.Common.{subst, ⊎_elim, inl, inr, arith, eqb-true, ltb-true, ne_eqb, append-nil, append_assoc}
 use Rattle.std.specs.Prelude.{◌||◌, ◌&&◌, nat_eq, nat_lt, nat_le, not}
 use Rattle.std.proofs.Math.Bool.{false≢true}
 use Rattle.pp_link.specs.declared.layout.Sizes.{Sizes}
@@ -9,14 +9,12 @@ use Rattle.pp_model.specs.declared.Call.{Call}
 use Rattle.pp_model.specs.declared.steps.Step.{Step}
 use Rattle.pp_model.specs.Pass.{MapSizes}
 use Rattle.pp_rule.specs.Lists.{IsIn}
-use Rattle.pp_rule.specs.Orders.{clear_step}
-use Rattle.pp_rule.proofs.Put.{in_first, in_later, in_one}
+use Rattle.pp_rule.proofs.Put.{in_first, in_later}
 use Rattle.pp_base.specs.Named.{NamedStep, name_of}
 use Rattle.pp_shelf.specs.Runs.{map_sizes}
 use Rattle.pp_purse.specs.Steps.{is_purse_step}
-use Rattle.pp_turns.specs.Tallies.{losing, effected, memory_of, counting, tally}
+use Rattle.pp_turns.specs.Tallies.{losing, effected, memory_of, tally}
 use Rattle.pp_turns.specs.Causes.{is_aside, PassesOver}
-use Rattle.pp_turns.proofs.Tallies.{tally_none}
 use Rattle.pp_tree_turns.specs.Walked.{Walked, after_load, after_key, tree_next, tree_loses, tree_strikes, tree_reader, walked}
 use Rattle.pp_tree_turns.specs.Walked.{one_if, lost_by, TreeTally, moved}
 

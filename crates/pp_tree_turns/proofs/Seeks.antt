@@ -1,23 +1,22 @@
 -- What the turns of a seek count.
-use Rattle.std.proofs.Common.{◌≡◌, ◌≢◌, ◌⊎◌, ℕ, ◌+◌, ◌*◌, ◌<◌, ◌≤◌, Bool, true, false, cond, List, [], ◌∷◌, ◌++◌, map, refl, sym, ap, ◌∙◌}
+use Rattle.std.proofs.Common.{◌≡◌, ◌≢◌, ◌⊎◌, ℕ, ◌+◌, ◌<◌, ◌≤◌, Bool, true, false, cond, List, [], ◌∷◌, ◌++◌, map, refl, sym, ap, ◌∙◌}
 use Rattle.std.proofs.Common.{subst, ⊎_elim, inl, inr, arith, ne_eqb, eq-eqb, lt-ltb, Option, Some, None}
 use Rattle.std.proofs.lemmas.Bool.{le-ltb, lt-leb, le-leb}
 use Rattle.std.proofs.lemmas.List.{map-append}
-use Rattle.std.specs.Prelude.{◌||◌, ◌&&◌, nat_eq, nat_lt, nat_le, not}
+use Rattle.std.specs.Prelude.{◌||◌, nat_eq, nat_lt, nat_le, not}
 use Rattle.pp_link.specs.declared.layout.Sizes.{Sizes}
 use Rattle.pp_link.specs.Links.{invalid_bit}
 use Rattle.pp_link.specs.Places.{head_place}
 use Rattle.pp_model.specs.declared.Call.{Call}
 use Rattle.pp_model.specs.declared.Change.{Change}
 use Rattle.pp_model.specs.declared.Placed.{Placed}
-use Rattle.pp_model.specs.declared.steps.Step.{Step}
 use Rattle.pp_model.specs.Calls.{key_of}
 use Rattle.pp_model.specs.Pass.{MapSizes}
 use Rattle.pp_rule.specs.Lists.{IsIn}
 use Rattle.pp_rule.specs.Orders.{confirm_step, clear_step}
 use Rattle.pp_rule.specs.declared.views.LoggedStep.{LoggedStep}
-use Rattle.pp_rule.specs.Steps.{MadeStep, MadeQuietStep}
-use Rattle.pp_rule.proofs.Put.{in_first, in_later, in_left, in_cases, in_nil, in_one}
+use Rattle.pp_rule.specs.Steps.{MadeStep}
+use Rattle.pp_rule.proofs.Put.{in_first, in_later, in_left}
 use Rattle.pp_base.specs.Named.{NamedStep, name_of, loads, announces, confirms}
 use Rattle.pp_calls.specs.Steps.{Stepped, HasOwn, StandsThen}
 use Rattle.pp_calls.proofs.Growing.{stepped_made, stepped_one, stepped_both}
@@ -26,14 +25,14 @@ use Rattle.pp_shelf.specs.Runs.{map_sizes, steps_made}
 use Rattle.pp_seek.specs.declared.seek.Spot.{Spot}
 use Rattle.pp_seek.specs.Trails.{IsSilent, Trail, IsFront, reads}
 use Rattle.pp_seek.proofs.Trailing.{front_exact}
-use Rattle.pp_seek.specs.Seeking.{Enters, ComesDown, WentDown, FoundInvalid, FoundOther, FoundOutside, LostBy, Loses, EndsDown, IsSecond}
+use Rattle.pp_seek.specs.Seeking.{Enters, ComesDown, FoundInvalid, FoundOther, FoundOutside, Loses, IsSecond}
 use Rattle.pp_trees.specs.Searches.{TreePass}
-use Rattle.pp_trees.specs.Trees.{inf0, inf2}
+use Rattle.pp_trees.specs.Trees.{inf0}
 use Rattle.pp_trees.specs.Edges.{TreeView, end_step}
 use Rattle.pp_turns.specs.Tallies.{memory_of}
 use Rattle.pp_turns.specs.Turns.{Ran}
 use Rattle.pp_turns.proofs.Stretches.{steps_named, stepped_steps, stretch_both}
-use Rattle.pp_tree_turns.specs.Walked.{Walked, unbounded, after_load, tree_next, tree_loses, tree_strikes, tree_reader, walked}
+use Rattle.pp_tree_turns.specs.Walked.{Walked, unbounded, tree_next, tree_loses, tree_strikes, tree_reader, walked}
 use Rattle.pp_tree_turns.specs.Walked.{one_if, lost_by}
 use Rattle.pp_tree_turns.specs.Walked.{TreeTally, moved}
 use Rattle.pp_tree_turns.specs.Turning.{Minds, Names, Walks}
@@ -41,7 +40,7 @@ use Rattle.pp_tree_turns.proofs.Reading.{IsIdleKind, AreQuiet, tally_named, idle
 
 silent_quiet : (s : NamedStep) → IsSilent s.kind → tree_strikes s ≡ false
 silent_quiet s e = ⊎_elim
-    (λ (low : (2 ≤ s.kind) × (s.kind < 9)). let most = low.1 in by (λ i. omega arith) (λ i. omega arith))
+    (λ (low : (4 ≤ s.kind) × (s.kind < 9)). let most = low.1 in by (λ i. omega arith) (λ i. omega arith))
     (λ (is : s.kind ≡ end_step). by (λ i. omega arith) (λ i. omega arith)) e
   where
     by : s.kind ≢ 20 → s.kind ≢ 21 → tree_strikes s ≡ false
@@ -217,7 +216,8 @@ module _ (z : Sizes) (call : Call) (m : Walked) (place w : ℕ) (far : head_plac
             (sym e) h
 
     other_walked : (kind second : ℕ) → IsSecond kind → second ≢ w
-        → walked (map_sizes z) call m (loads place w ∷ announces at number ∷ record { kind = kind; place = place; word = second } ∷ []) ≡ loaded
+        → walked (map_sizes z) call m (loads place w ∷ announces at number ∷ record { kind = kind; place = place; word = second } ∷ [])
+        ≡ loaded
     unfolding walked
     other_walked kind second which other = load_walked
         (announces at number ∷ record { kind = kind; place = place; word = second } ∷ []) loaded

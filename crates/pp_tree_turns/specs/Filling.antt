@@ -3,8 +3,7 @@ use Rattle.std.specs.Prelude.{◌≡◌, ◌≢◌, ◌⊎◌, ℕ, ◌+◌, ◌
 use lib.ListN.{get_elem?}
 use mathlib.Core.Option.{some}
 use Rattle.pp_link.specs.declared.layout.Sizes.{Sizes}
-use Rattle.pp_link.specs.Links.{word_of, target, flag_bit, tag_bit}
-use Rattle.pp_model.specs.declared.Call.{Call}
+use Rattle.pp_link.specs.Links.{word_of, flag_bit, tag_bit}
 use Rattle.pp_model.specs.declared.Call.TheVariants.{Insert}
 use Rattle.pp_model.specs.declared.Reply.TheVariants.{Added}
 use Rattle.pp_rule.specs.declared.views.PrivateRecord.{PrivateRecord}

@@ -3,3 +3,4 @@ pub mod Causes
 pub mod Turning
 pub mod Exchanging
 pub mod Filling
+pub mod Lone

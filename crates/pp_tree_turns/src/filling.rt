@@ -5,6 +5,9 @@ ghost use Rattle.pp_link.specs.Links.{word_of};
 ghost use Rattle.pp_base.specs.Passes.{known, view, owned_numbers, Fits, IsSame, IsAtRest};
 ghost use Rattle.pp_edges.specs.declared.edges.Published.TheVariants as published;
 ghost use Rattle.pp_pool.specs.Taken.{IsPrivate, one_fewer_out};
+ghost use Rattle.pp_seek.specs.Lone.{LoneSought};
+ghost use Rattle.pp_trees.specs.Clean.{IsBare};
+ghost use Rattle.pp_trees.specs.Lone.{words_of};
 ghost use Rattle.pp_tree_turns.specs.Filling.{Filled, FilledOver, PublishesNext, PublishedTo};
 
 use pp_base::{Pass, Pool, Side};
@@ -60,7 +63,8 @@ fn fill_over(
 }
 
 /// Tries to add the pair of an insert at the edge where its seek ended: both private records are written, and the edge is
-/// exchanged. Changed says that it had become another one: the turn is lost, and both records are back.
+/// exchanged. Changed says that it had become another one: the turn is lost, and both records are back. A pass that is alone on its
+/// pool is never told so where that edge stands there.
 pub fn publish_turn(
     pool: &Pool<TreeShape>,
     pass: &mut Pass<TreeShape>,
@@ -79,6 +83,8 @@ pub fn publish_turn(
     ensures same { IsSame pass.old.seat pass.new.seat }
     ensures published { PublishedTo pool.now.layout leaf.number inner.number key value result
         (view pass.old.seat) (view pass.new.seat) }
+    ensures alone { LoneSought pool.now.layout sought (view pass.old.seat)
+        → (result ≡ published.Done) × IsBare pool.now.layout (words_of pool.now.layout (view pass.new.seat)) }
     ensures rest { IsAtRest (known pass.new.seat) pass.new.purse }
     ensures spent { result ≡ published.Done → pass.new.purse ≡ one_fewer_out (one_fewer_out pass.old.purse) }
     ensures kept { (result ≡ published.Done → ⊥) → pass.new.purse ≡ pass.old.purse }

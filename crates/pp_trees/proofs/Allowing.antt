@@ -218,7 +218,8 @@ unfolding Rattle.pp_link.specs.Words.cell_word
 tags_here opens z slots id at sd me lone same may = let place = cell_place z (slot me.0.known me.0.known.own.at).named
     (2 + sd) in let q : TreePass = me.0.known in
     allows 2 opens (λ z words g. Trees z words g) z slots id place tag_step me (λ n. bit_or n 2) (λ n. n)
-    (λ n m'. (m'.1 ≡ []) × Tags place sd n me.0 m'.0) lone (λ m none. refl) (λ m bad. absurd (false≢true bad)) (λ m bad. absurd (false≢true bad))
+    (λ n m'. (m'.1 ≡ []) × Tags place sd n me.0 m'.0) lone (λ m none. refl) (λ m bad. absurd (false≢true bad))
+    (λ m bad. absurd (false≢true bad))
     (λ words g b tr pass is sizes fits. record {
       known = tagging.after z words g q place sd b tr pass is may;
       status = g.status;

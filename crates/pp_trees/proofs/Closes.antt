@@ -26,7 +26,7 @@ use Rattle.pp_trees.proofs.Rising.{same_finds, some_same}
 use Rattle.pp_trees.proofs.Gathers.{gathered_still, live_number}
 
 -- a number stands in a list as often as it is in it
-in_times : (n : ℕ) (ys : List ℕ) → 1 ≤ times n ys → IsIn n ys
+pub in_times : (n : ℕ) (ys : List ℕ) → 1 ≤ times n ys → IsIn n ys
 unfolding times
 in_times n [] has = absurd (omega arith)
 in_times n (y ∷ ys) has = dite (ℕ_discrete y n) (λ same. subst (λ (k : ℕ). IsIn k (y ∷ ys)) same (in_first y ys))

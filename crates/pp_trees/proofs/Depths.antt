@@ -43,7 +43,7 @@ trail t k n (down {n = p} m inner to) = p ∷ trail t k p m
 
 module _ (z : Sizes) (t : Heap) (sane : Sane z t) (tree : SearchTree z t) where
   -- all walks come to a record over as many records
-  depth_same : (i j : ℕ) (n n' : ℕ) → n ≡ n' → (m : Meets t i n) (m' : Meets t j n')
+  pub depth_same : (i j : ℕ) (n n' : ℕ) → n ≡ n' → (m : Meets t i n) (m' : Meets t j n')
       → length (trail t i n m) ≡ length (trail t j n' m')
   unfolding trail
   depth_same i j n n' e (root is) (root is') = refl

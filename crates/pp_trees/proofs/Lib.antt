@@ -33,3 +33,7 @@ pub mod Closes
 pub mod Opens
 pub mod Looking
 pub mod Reaching
+pub mod Below
+pub mod Cleaning
+pub mod Lone
+pub mod LoneCounts

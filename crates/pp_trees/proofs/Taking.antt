@@ -66,7 +66,7 @@ module _ (z : Sizes) (words : List ℕ) (g : TreeState) (q : TreePass) (place fi
   unfolding cell_word
   link_is = ap (λ (k : ℕ). get_or words k 0) (sym may.at) ∙ found
 
-  ancestor : Internal z t a
+  pub ancestor : Internal z t a
   ancestor = go (g.status a) refl held.used
     where
       children : IsLinked (g.status a) → HasChildren t a

@@ -5,3 +5,5 @@ pub mod Gathering
 pub mod Sentinels
 pub mod Edges
 pub mod Seeks
+pub mod Clean
+pub mod Lone

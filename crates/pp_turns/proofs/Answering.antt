@@ -1,6 +1,7 @@
 -- The clauses of a call's turns and of its answers, from what its turns come to.
 use Rattle.std.proofs.Common.{◌≡◌, ◌⊎◌, ℕ, ◌-◌, ◌<◌, ◌≤◌, true, false, List, [], ◌∷◌, length, refl, sym, ap, ◌∙◌, subst, arith}
 use Rattle.std.proofs.Math.Bool.{false≢true}
+use Rattle.pp_model.specs.declared.Answer.{Answer}
 use Rattle.pp_model.specs.declared.Answer.TheVariants.{Said, Full, Lost}
 use Rattle.pp_model.specs.declared.Call.{Call}
 use Rattle.pp_model.specs.declared.Call.TheVariants.{Insert}
@@ -13,7 +14,7 @@ use Rattle.pp_model.specs.declared.steps.Step.{Step}
 use Rattle.pp_model.specs.Calls.{changes, key_of}
 use Rattle.pp_model.specs.FiniteMap.{find}
 use Rattle.pp_model.specs.History.{after as map_after}
-use Rattle.pp_model.specs.MapCalls.{Grew, Strikes, SameCall, MakesTurn, Counted, AnswersCall, PlacesReply, LeavesPurse, FullPurse}
+use Rattle.pp_model.specs.MapCalls.{Grew, Strikes, SameCall, MakesTurn, Counted, Answered, PlacesReply, LeavesPurse, FullPurse}
 use Rattle.pp_model.specs.Pass.{PassView, GoingView, MapSizes, Meaning, seen_first, seen_last, steps_since, start_of}
 use Rattle.pp_rule.specs.declared.views.SeatView.{SeatView}
 use Rattle.pp_rule.specs.Causes.{PoolWords, CauseWords, pool_meaning, PoolCause, WasDetached, FoundNone, lost_from, early_from}
@@ -31,6 +32,11 @@ use Rattle.pp_turns.specs.Causes.{TookBy}
 use Rattle.pp_turns.proofs.Tallies.{lost_told, early_told, later_told}
 use Rattle.pp_turns.proofs.Stretches.{went_steps}
 use Rattle.pp_turns.proofs.Purses.{since_seen}
+
+-- a call is answered as its steps tell, by whatever name its number of lost turns goes
+pub told_as : (m : Meaning) (z : MapSizes) (call : Call) (budget : ℕ) (before now : PassView) (answer : Answer) (n k : ℕ) → n ≡ k
+    → Answered m z call budget before now answer n → Answered m z call budget before now answer k
+told_as m z call budget before now answer n k same a = subst (λ (j : ℕ). Answered m z call budget before now answer j) same a
 
 -- how much the first of some steps saw
 seen_some : (d e : ℕ) (steps : List Step) → 0 < length steps → seen_first d steps ≡ seen_first e steps
@@ -171,7 +177,7 @@ module _ (words : PoolWords) (causes : CauseWords) (holds : MapSizes → List �
 
     -- An answer by a reply that changes nothing.
     pub says_plain : (said : Reply) → Replied call said start from now → early_of t < budget → LeavesPurse meaning z call before after
-        → AnswersCall meaning z call budget before after (Said said)
+        → Answered meaning z call budget before after (Said said) (lost_of t)
     says_plain said s few purse = let lo = s.since in record {
       grew = all_grew;
       says = record {
@@ -189,6 +195,7 @@ module _ (words : PoolWords) (causes : CauseWords) (holds : MapSizes → List �
       purse = purse;
       full = tt;
       stepped = stepped;
+      counted = lost_is;
     }
 
     own_long : length after.steps ≡ length (made_by now.known.number now.order)
@@ -214,7 +221,7 @@ module _ (words : PoolWords) (causes : CauseWords) (holds : MapSizes → List �
     -- An answer by a reply that says that the map was changed.
     pub says_struck : (said : Reply) → Struck call said from now → early_of t < budget
         → ((v : ℕ) → said ≡ Took v → TookBy words causes z call budget t from now) → LeavesPurse meaning z call before after
-        → AnswersCall meaning z call budget before after (Said said)
+        → Answered meaning z call budget before after (Said said) (lost_of t)
     says_struck said s few why purse = record {
       grew = all_grew;
       says = struck_reply said s;
@@ -224,6 +231,7 @@ module _ (words : PoolWords) (causes : CauseWords) (holds : MapSizes → List �
       purse = purse;
       full = tt;
       stepped = stepped;
+      counted = lost_is;
     }
       where
         by : (r : Reply) → said ≡ r → PoolCause words causes z call budget before after (Said r)
@@ -237,7 +245,7 @@ module _ (words : PoolWords) (causes : CauseWords) (holds : MapSizes → List �
     -- No record was found.
     pub says_full : (k v : ℕ) → call ≡ Insert k v → Unplaced from now → length free < words.need → WasAbsent start k (log_of now.order)
         → early_of t < budget → FoundNone words.need z free (steps_made from now) → LeavesPurse meaning z call before after
-        → FullPurse meaning z before after → AnswersCall meaning z call budget before after Full
+        → FullPurse meaning z before after → Answered meaning z call budget before after Full (lost_of t)
     says_full k v asked none short a few cause purse full = let lo = a.since in record {
       grew = all_grew;
       says = record {
@@ -255,6 +263,7 @@ module _ (words : PoolWords) (causes : CauseWords) (holds : MapSizes → List �
       purse = purse;
       full = full;
       stepped = stepped;
+      counted = lost_is;
     }
       where
         after_log : ℕ → List Pair
@@ -262,7 +271,7 @@ module _ (words : PoolWords) (causes : CauseWords) (holds : MapSizes → List �
 
     -- It lost as many turns as it may, and gave up.
     pub gave_up : (turns : ℕ) → Unplaced from now → lost_of t ≡ turns → early_of t ≡ turns → turns ≡ budget
-        → LeavesPurse meaning z call before after → AnswersCall meaning z call budget before after (Lost turns)
+        → LeavesPurse meaning z call before after → Answered meaning z call budget before after (Lost turns) (lost_of t)
     gave_up turns none lost early all purse = record {
       grew = all_grew;
       says = record { mine = mine_same none; counted = lost_is ∙ lost };
@@ -272,4 +281,5 @@ module _ (words : PoolWords) (causes : CauseWords) (holds : MapSizes → List �
       purse = purse;
       full = tt;
       stepped = stepped;
+      counted = lost_is;
     }

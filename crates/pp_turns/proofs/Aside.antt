@@ -38,7 +38,7 @@ in_names s (t ∷ steps) i = ⊎_elim (λ (here : s ≡ t). subst (λ (x : Step)
     (λ (later : IsIn s steps). in_later (name_of s) (name_of t) (map name_of steps) (in_names s steps later)) (in_cases s t steps i)
 
 -- the steps that are named
-named_in : (P : NamedStep → Type 0) (steps : List Step) (names : List NamedStep) → map name_of steps ≡ names
+pub named_in : (P : NamedStep → Type 0) (steps : List Step) (names : List NamedStep) → map name_of steps ≡ names
     → ((n : NamedStep) → IsIn n names → P n) → (s : Step) → IsIn s steps → P (name_of s)
 named_in P steps names is each s i = each (name_of s) (subst (λ (l : List NamedStep). IsIn (name_of s) l) is (in_names s steps i))
 

@@ -5,3 +5,4 @@ pub mod Aside
 pub mod Purses
 pub mod Answering
 pub mod Detached
+pub mod CalmSteps

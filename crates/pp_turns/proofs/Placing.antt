@@ -54,7 +54,8 @@ module _ {W : Type 0} where
       let number : m.0.known.number ≡ v.known.number =
       ap (λ (q : PassState W). q.number) (known_after s.kind s.place s.word one.left [] [] one.known v m.0 one.made) ∙ one.number in
       unplaced_on v m.0 w number
-      (placed_after s.kind s.place s.word one.left [] [] one.known v m.0 one.made one.number ∙ append-nil (placed_by v.known.number v.order))
+      (placed_after s.kind s.place s.word one.left [] [] one.known v m.0 one.made one.number
+      ∙ append-nil (placed_by v.known.number v.order))
       (unplaced_made names m.0 w m.1.1)
 
   placed_on : (u v w : SeatView Change Placed W) (x : Placed) → v.known.number ≡ u.known.number → Unplaced u v
@@ -79,7 +80,8 @@ module _ {W : Type 0} where
       let at : Placed = placed call said (length (log_of w.order)) in
       let log : log_of w.order ≡ log_of m.so_far ++ c ∷ [] = seen_after_step kind place word left (c ∷ []) (at ∷ []) known v w m in
       let long = begins_long (log_of m.so_far) (log_of v.order) (log_begins m.so_far v.order m.begins) in
-      let sum : length (log_of w.order) ≡ length (log_of m.so_far) + 1 = ap (λ (l : List Change). length l) log ∙ plus_one (log_of m.so_far) c in record {
+      let sum : length (log_of w.order) ≡ length (log_of m.so_far) + 1 = ap (λ (l : List Change). length l) log ∙ plus_one (log_of m.so_far)
+      c in record {
         changed = changed;
         place = length (log_of w.order);
         placed_so = placed_after kind place word left (c ∷ []) (at ∷ []) known v w m number;

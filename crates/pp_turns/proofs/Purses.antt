@@ -50,7 +50,8 @@ module _ {W : Type 0} where
       none_made : link_writes v.known.sizes s.steps ≡ 0
       none_made = none_written v.known.sizes s.steps (subst WriteNone (stepped_steps v w s) none)
 
-      parts : link_writes v.known.sizes (made_by n w.order) ≡ link_writes v.known.sizes (made_by n v.order) + link_writes v.known.sizes s.steps
+      parts : link_writes v.known.sizes (made_by n w.order) ≡ link_writes v.known.sizes (made_by n v.order) + link_writes v.known.sizes
+          s.steps
       parts = ap (link_writes v.known.sizes) s.made ∙ writes_append v.known.sizes (made_by n v.order) s.steps
 
       wrote : link_writes w.known.sizes (made_by w.known.number w.order) ≡ link_writes v.known.sizes (made_by n v.order)
@@ -115,7 +116,8 @@ module _ {W : Type 0} (z : Sizes) (need : ℕ) (from v u w : SeatView Change Pla
     earlier = steps_made from v ++ o.earlier;
     scan = o.scan;
     later = o.later ++ steps_made u w;
-    is = parts ∙ (ap (λ (l : List Step). steps_made from v ++ l) inner ∙ regroup (steps_made from v) o.earlier o.scan o.later (steps_made u w));
+    is = parts ∙ (ap (λ (l : List Step). steps_made from v ++ l) inner ∙ regroup (steps_made from v) o.earlier o.scan o.later
+        (steps_made u w));
     reclaim = o.reclaim;
     few = o.few;
     still = subst (λ (k : ℕ). k < need) (sym owned) few;

@@ -13,7 +13,8 @@ use Rattle.pp_rule.specs.declared.views.Chain.{Chain}
 use Rattle.pp_rule.specs.declared.views.WalkSlot.{WalkSlot}
 use Rattle.pp_rule.specs.declared.views.PassState.{PassState}
 use Rattle.pp_rule.specs.declared.views.SeatView.{SeatView}
-use Rattle.pp_rule.specs.Steps.{IsUnused, with_frontier, detaching}
+use Rattle.pp_rule.specs.Orders.{detach_step}
+use Rattle.pp_rule.specs.Steps.{IsUnused, with_frontier, detaching, MadeQuietStep}
 use Rattle.pp_rule.proofs.Made.{known_after}
 use Rattle.pp_base.specs.declared.purse.InHand.{InHand}
 use Rattle.pp_base.specs.declared.purse.Purse.{Purse}
@@ -129,6 +130,15 @@ module _ {E A W : Type 0} where
         ),
       );
       known = exchanged_known found detached hit;
+      exchange = record {
+        then = view s2;
+        earlier = (view s2, (guards_one, refl));
+        known = detaching (chain (known s2).walk (known s2).own guard first new) (known s2);
+        made = subst (λ (k : ℕ). MadeQuietStep detach_step k first new
+            (detaching (chain (known s2).walk (known s2).own guard first new) (known s2)) (view s2) (view s3)) place_is
+            (subst (λ (w : ℕ). MadeQuietStep detach_step (source_place z (known s2) at side) w new
+            (detaching (chain (known s2).walk (known s2).own guard first new) (known s2)) (view s2) (view s3)) hit made);
+      };
     }
 
     -- what the pass knows after the exchange that found another word
@@ -176,7 +186,8 @@ module _ {E A W : Type 0} where
                     view s4,
                     (
                       subst (λ (k : ℕ). MadeOne (unguards (frontier_place z k guard)) (view s3) (view s4)) number
-                          (plain_one (unguards (frontier_place z (known s3).number guard)) (with_frontier guard 0 (known s3)) (view s3) (view s4) refl
+                          (plain_one (unguards (frontier_place z (known s3).number guard)) (with_frontier guard 0 (known s3)) (view s3)
+                          (view s4) refl
                           refl cleared),
                       refl,
                     ),

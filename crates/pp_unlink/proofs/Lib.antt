@@ -3,3 +3,4 @@ pub mod Looking
 pub mod Settling
 pub mod Exchanging
 pub mod Pigeons
+pub mod Calm

@@ -145,7 +145,8 @@ more_links sides k c one two chained lt = let few = aside_few sides k c chained 
 
 module _ {E A W : Type 0} where
   -- The first k links of the oldest chain have INVALID, and the records that they lead to stand behind the retired ones.
-  pub record Looks (sides : ℕ) (z : Sizes) (k : ℕ) (s : Seat Unit (SeatView E A W)) (p : Purse) (s' : Seat Unit (SeatView E A W)) (p' : Purse)
+  pub record Looks (sides : ℕ) (z : Sizes) (k : ℕ) (s : Seat Unit (SeatView E A W)) (p : Purse) (s' : Seat Unit (SeatView E A W))
+      (p' : Purse)
       : Type 0 where
     pub words : List ℕ
     pub count : length words ≡ k
@@ -180,7 +181,8 @@ module _ {E A W : Type 0} where
   }
 
   -- one link more
-  pub looks_more : (sides : ℕ) (z : Sizes) (k n side found : ℕ) (s : Seat Unit (SeatView E A W)) (p : Purse) (s' : Seat Unit (SeatView E A W))
+  pub looks_more : (sides : ℕ) (z : Sizes) (k n side found : ℕ) (s : Seat Unit (SeatView E A W)) (p : Purse)
+      (s' : Seat Unit (SeatView E A W))
       (p' : Purse) (s'' : Seat Unit (SeatView E A W)) (p'' : Purse) → 0 < length (known s).chains
       → IsChained sides (first_of 0 (chain_at (known s) 0).records) (chain_at (known s) 0) → Looks sides z k s p s' p'
       → k < length (chain_at (known s) 0).links → link_of (get_or (chain_at (known s) 0).links k no_link) ≡ (n, side)
@@ -198,7 +200,8 @@ module _ {E A W : Type 0} where
       let links : List (ℕ × ℕ) = links_of sides c.records in
       let last : get_or links k (0, 0) ≡ (n, side) = ap (λ (ls : List (ℕ × ℕ)). get_or ls k (0, 0)) (sym chained.links_are)
       ∙ (pair_at c.links k lt ∙ pair) in
-      let long : length links ≡ length c.links = ap (λ (ls : List (ℕ × ℕ)). length ls) (sym chained.links_are) ∙ length-map c.links link_of in
+      let long : length links ≡ length c.links = ap (λ (ls : List (ℕ × ℕ)). length ls) (sym chained.links_are) ∙ length-map c.links link_of
+      in
       let pairs : take (suc k) links ≡ take k links ++ (n, side) ∷ [] = take-suc links k (0, 0) (omega (arith, lt, long))
       ∙ ap (λ (x : ℕ × ℕ). take k links ++ x ∷ []) last in
       let first : take (suc k) c.links ≡ take k c.links ++ l ∷ [] = take-suc c.links k no_link lt in
@@ -246,7 +249,8 @@ module _ {E A W : Type 0} where
       }
 
   -- where no record set aside has a link that wasn't looked at, all are looked through
-  pub looks_all : (sides : ℕ) (z : Sizes) (k : ℕ) (s : Seat Unit (SeatView E A W)) (p : Purse) (s' : Seat Unit (SeatView E A W)) (p' : Purse)
+  pub looks_all : (sides : ℕ) (z : Sizes) (k : ℕ) (s : Seat Unit (SeatView E A W)) (p : Purse) (s' : Seat Unit (SeatView E A W))
+      (p' : Purse)
       → IsChained sides (first_of 0 (chain_at (known s) 0).records) (chain_at (known s) 0) → Looks sides z k s p s' p'
       → (k < sides * length (aside_of k (chain_at (known s) 0)) → ⊥) → LooksThrough sides z s p s' p'
   looks_all sides z k s p s' p' chained looks done =
@@ -255,11 +259,13 @@ module _ {E A W : Type 0} where
       let end : k ≡ length c.links = dite (ℕ_discrete k (length c.links)) (λ e. e)
       (λ ne. let most = looks.most in let more : 1 + length (led_to c.frontier (take k c.links)) ≡ length (aside_of k c) = omega arith in
       absurd (done (subst (λ (m : ℕ). k < sides * m) more (chained.reached k (omega (arith, most, ne)))))) in
-      let long : length links ≡ length c.links = ap (λ (ls : List (ℕ × ℕ)). length ls) (sym chained.links_are) ∙ length-map c.links link_of in
+      let long : length links ≡ length c.links = ap (λ (ls : List (ℕ × ℕ)). length ls) (sym chained.links_are) ∙ length-map c.links link_of
+      in
       let whole : take k links ≡ links = take_whole links k (omega (arith, end, long)) in
       let all : take k c.links ≡ c.links = take_whole c.links k (omega (arith, end)) in
       let none : looks.left ≡ [] = no_left looks.left (λ l i. looks.others l
-      (λ valid. chained.valid l (λ member. looks.gone member.0 (let low = in_range links member.0 l member.1 in omega (arith, low, end, long))
+      (λ valid. chained.valid l (λ member. looks.gone member.0 (let low = in_range links member.0 l member.1 in
+      omega (arith, low, end, long))
       (subst (λ (x : ℕ × ℕ). IsIn x looks.left) (sym (at_index links member.0 l member.1)) i)) valid) i) in record {
         words = looks.words;
         lead = looks.lead ∙ ap (map led_of) all;
@@ -295,7 +301,8 @@ module _ {E A W : Type 0} where
     pub pair : link_of (get_or (chain_at (known s) 0).links k no_link) ≡ (n, side)
     pub member : IsIn n (chain_at (known s') 0).records
 
-  pub turn : (sides : ℕ) (z : Sizes) (k n before : ℕ) (s : Seat Unit (SeatView E A W)) (p : Purse) (s' : Seat Unit (SeatView E A W)) (p' : Purse)
+  pub turn : (sides : ℕ) (z : Sizes) (k n before : ℕ) (s : Seat Unit (SeatView E A W)) (p : Purse) (s' : Seat Unit (SeatView E A W))
+      (p' : Purse)
       → 1 ≤ sides → sides ≤ 2 → 0 < length (known s).chains
       → IsChained sides (first_of 0 (chain_at (known s) 0).records) (chain_at (known s) 0) → Looks sides z k s p s' p'
       → before ≡ length (known s).retired → k < sides * (length p'.retired.items - before)
@@ -315,7 +322,8 @@ module _ {E A W : Type 0} where
       ∙ (ap (λ (ns : List ℕ). get_or ns (length (known s).retired + k / sides) 0) looks.aside
       ∙ (get_or-append-add (known s).retired (aside_of k c) (k / sides) 0 ∙ next_record sides k (k / sides) c chained below))) in
       let few = aside_few sides k c chained in
-      let in_c : IsIn (get_or c.records (k / sides) 0) c.records = (k / sides, elem_at c.records (k / sides) 0 (omega (arith, below, few))) in
+      let in_c : IsIn (get_or c.records (k / sides) 0) c.records = (k / sides, elem_at c.records (k / sides) 0 (omega (arith, below, few)))
+      in
       let here : chain_at (known s') 0 ≡ record c { valid = looks.left } = ap (λ q. chain_at q 0) looks.known_is
       ∙ chain_set (known s) (record c { valid = looks.left }) any in
       let count_is : length c.links ≡ sides * length c.records = links_count sides c one two chained in
@@ -328,7 +336,8 @@ module _ {E A W : Type 0} where
       }
 
   -- a word that was found leads where the link led
-  pub found_leads : (sides : ℕ) (z : Sizes) (k n side found : ℕ) (s : Seat Unit (SeatView E A W)) (p : Purse) (s' : Seat Unit (SeatView E A W))
+  pub found_leads : (sides : ℕ) (z : Sizes) (k n side found : ℕ) (s : Seat Unit (SeatView E A W)) (p : Purse)
+      (s' : Seat Unit (SeatView E A W))
       (p' : Purse) (s'' : Seat Unit (SeatView E A W)) → 0 < length (known s).chains → Looks sides z k s p s' p' → Turn sides k n side s s'
       → Invalidated 0 (chain_at (known s') 0) n side found (cell_place z n (2 + side)) (view s') (view s'')
       → target found ≡ target (get_or (chain_at (known s) 0).links k no_link).word
@@ -345,9 +354,11 @@ module _ {E A W : Type 0} where
       → Keeping sentinels sides s number share walk p → 0 < length (known s).chains
       → length (known s).retired + length (chain_at (known s) 0).records ≤ vec_capacity p.retired
   hand_fits sentinels sides s number share walk p k any = let fit = k.pass.fit in let room = k.room.retired_are in
-      let all : length (numbers_of (known s)) ≡ length (owned_numbers (known s)) + length ((known s).retired ++ members_of (known s).chains) =
+      let all : length (numbers_of (known s)) ≡ length (owned_numbers (known s)) + length ((known s).retired ++ members_of
+      (known s).chains) =
       length-append (owned_numbers (known s)) ((known s).retired ++ members_of (known s).chains) in
-      let rest : length ((known s).retired ++ members_of (known s).chains) ≡ length (known s).retired + length (members_of (known s).chains) =
+      let rest : length ((known s).retired ++ members_of (known s).chains) ≡ length (known s).retired + length
+      (members_of (known s).chains) =
       length-append (known s).retired (members_of (known s).chains) in
       let oldest = oldest_few (known s).chains any in omega (arith, fit, room, all, rest, oldest)
 
@@ -378,7 +389,8 @@ module _ {E A W : Type 0} where
       omega (arith, fits, retired, records, few, more, sum, items, all, same)
 
   -- the same where the code has the number of sides
-  pub turn_at : (sides sides' : ℕ) (z : Sizes) (k n side before : ℕ) (s : Seat Unit (SeatView E A W)) (p : Purse) (s' : Seat Unit (SeatView E A W))
+  pub turn_at : (sides sides' : ℕ) (z : Sizes) (k n side before : ℕ) (s : Seat Unit (SeatView E A W)) (p : Purse)
+      (s' : Seat Unit (SeatView E A W))
       (p' : Purse) → sides' ≡ sides → 1 ≤ sides → sides ≤ 2 → 0 < length (known s).chains
       → IsChained sides (first_of 0 (chain_at (known s) 0).records) (chain_at (known s) 0) → Looks sides z k s p s' p'
       → before ≡ length (known s).retired → (count : ℕ) → count ≡ length p'.retired.items → k < sides' * (count - before)

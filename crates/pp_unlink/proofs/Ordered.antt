@@ -16,7 +16,8 @@ led_append x [] ms = refl
 led_append x (l ∷ ls) ms = by (led_append x ls ms) (eqb (target l.word) 0 || eqb (target l.word) x)
   where
     by : led_to x (ls ++ ms) ≡ led_to x ls ++ led_to x ms → (b : Bool)
-        → cond b (led_to x (ls ++ ms)) (target l.word ∷ led_to x (ls ++ ms)) ≡ cond b (led_to x ls) (target l.word ∷ led_to x ls) ++ led_to x ms
+        → cond b (led_to x (ls ++ ms)) (target l.word ∷ led_to x (ls ++ ms)) ≡ cond b (led_to x ls) (target l.word ∷ led_to x ls) ++ led_to
+        x ms
     by rest true = rest
     by rest false = ap (λ (ns : List ℕ). target l.word ∷ ns) rest
 
@@ -86,7 +87,8 @@ double_at (n ∷ ns) zero lt = refl
 double_at (n ∷ ns) (suc zero) lt = refl
 double_at (n ∷ ns) (suc (suc k)) lt =
     let half : suc (suc k) / 2 ≡ suc (k / 2) = omega arith in let rest : suc (suc k) % 2 ≡ k % 2 = omega arith in
-    double_at ns k (omega arith) ∙ sym (ap (λ (i : ℕ). (get_or (n ∷ ns) i 0, suc (suc k) % 2)) half ∙ ap (λ (r : ℕ). (get_or ns (k / 2) 0, r)) rest)
+    double_at ns k (omega arith) ∙ sym (ap (λ (i : ℕ). (get_or (n ∷ ns) i 0, suc (suc k) % 2)) half
+    ∙ ap (λ (r : ℕ). (get_or ns (k / 2) 0, r)) rest)
 
 -- the link at an index is one of the record at that index divided by the number of sides
 pub link_at : (sides : ℕ) (ns : List ℕ) (k : ℕ) → 1 ≤ sides → sides ≤ 2 → k < sides * length ns

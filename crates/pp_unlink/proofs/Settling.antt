@@ -47,7 +47,8 @@ module _ {W : Type 0} where
     scan = r.scan;
     spent = none;
     frontier = λ j low unused. dite (ℕ_discrete j (chain_at q 0).guard)
-        (λ e. subst (λ (i : ℕ). get_or (set q.frontier (chain_at q 0).guard 0) i 0 ≡ 0) (sym e) (word_cleared q.frontier (chain_at q 0).guard))
+        (λ e. subst (λ (i : ℕ). get_or (set q.frontier (chain_at q 0).guard 0) i 0 ≡ 0) (sym e)
+        (word_cleared q.frontier (chain_at q 0).guard))
         (λ ne. word_else q.frontier (chain_at q 0).guard j 0 ne ∙ r.frontier j low (unused_before q j ne unused));
   }
 

@@ -60,7 +60,8 @@ module _ {E A W : Type 0} where
   Flushed sides z (suc n) before after = (next : SeatView E A W) × (Invalidated sides z before next × Flushed sides z n next after)
 
   -- INVALID was set in each link of the oldest chain, whose records stand behind the retired ones.
-  pub record LooksThrough (sides : ℕ) (z : Sizes) (s : Seat Unit (SeatView E A W)) (p : Purse) (s' : Seat Unit (SeatView E A W)) (p' : Purse)
+  pub record LooksThrough (sides : ℕ) (z : Sizes) (s : Seat Unit (SeatView E A W)) (p : Purse) (s' : Seat Unit (SeatView E A W))
+      (p' : Purse)
       : Type 0 where
     pub words : List ℕ
     pub lead : map target words ≡ map led_of (chain_at (known s) 0).links

@@ -8,12 +8,13 @@ use Rattle.pp_rule.specs.declared.views.Chain.{Chain}
 use Rattle.pp_rule.specs.declared.views.WalkSlot.{WalkSlot}
 use Rattle.pp_rule.specs.declared.views.PassState.{PassState}
 use Rattle.pp_rule.specs.declared.views.SeatView.{SeatView}
-use Rattle.pp_rule.specs.Steps.{IsUnused, with_frontier, detaching}
+use Rattle.pp_rule.specs.Orders.{detach_step}
+use Rattle.pp_rule.specs.Steps.{IsUnused, with_frontier, detaching, MadeQuietStep}
 use Rattle.pp_base.specs.declared.purse.InHand.{InHand}
 use Rattle.pp_base.specs.declared.source.Side.{Side}
 use Rattle.pp_base.specs.declared.source.Place.{Place}
 use Rattle.pp_base.specs.Sources.{source_place, learning_at}
-use Rattle.pp_base.specs.Named.{guards, unguards, detaches, misses, Made}
+use Rattle.pp_base.specs.Named.{NamedStep, guards, unguards, detaches, misses, Made}
 use Rattle.pp_unlink.specs.declared.unlinking.Unlink.{Unlink}
 use Rattle.pp_unlink.specs.declared.unlinking.Unlink.TheVariants.{Detached, Changed}
 use Rattle.pp_unlink.specs.Invalidation.{Flushed}
@@ -34,6 +35,13 @@ module _ {E A W : Type 0} where
     pub full : length before.known.chains ≡ 4 → Flushed sides z 4 before after
     pub few : length before.known.chains < 4 → after ≡ before
 
+  -- after this step a detaching exchange at this place found one word and left another
+  pub record ExchangesFor (step : NamedStep) (place first new : ℕ) (before after : SeatView E A W) : Type 0 where
+    pub then : SeatView E A W
+    pub earlier : Made (step ∷ []) before then
+    pub known : PassState W
+    pub made : MadeQuietStep detach_step place first new known then after
+
   module _ (sides : ℕ) (z : Sizes) (frozen : ℕ → Bool) (chain : List WalkSlot → W → ℕ → ℕ → ℕ → Chain) (at : Place) (side : Side)
       (first new : ℕ) (before after : SeatView E A W) where
     -- where the link stands
@@ -51,6 +59,8 @@ module _ {E A W : Type 0} where
           (target new) ∷ detaches link_at first ∷ []) between after
       pub known : after.known ≡ detaching (chain before.known.walk before.known.own guard first new)
           (with_frontier guard (target new) between.known)
+      -- the exchange itself, behind the store to the frontier word: it left the word that leads behind the chain
+      pub exchange : ExchangesFor (guards (frontier_place z before.known.number guard) (target new)) link_at first new between after
 
     -- The link was another word, which is learnt where it is frozen and a held record's. But for such a flush nothing else has
     -- changed.

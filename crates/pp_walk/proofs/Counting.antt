@@ -26,7 +26,8 @@ walks_write_none k is = walk_kinds k is (λ k. is_writing k ≡ false) refl refl
 
 -- a step that writes no link is no effect
 pub no_effect : (s : NamedStep) → only_walks s.kind ≡ true → is_effect s ≡ false
-no_effect s walks = let none : is_writing s.kind ≡ false = walks_write_none s.kind walks in ap (λ (b : Bool). b || (nat_eq s.kind 18 && not (has_flag s.word)))
+no_effect s walks = let none : is_writing s.kind ≡ false = walks_write_none s.kind walks in
+    ap (λ (b : Bool). b || (nat_eq s.kind 18 && not (has_flag s.word)))
     (ne_eqb s.kind 17 (λ e. let is : true ≡ is_writing s.kind = ap is_writing (sym e) in true≢false (is ∙ none)))
     ∙ ap (λ (b : Bool). b && not (has_flag s.word)) (ne_eqb s.kind 18 (λ e. let is : true ≡ is_writing s.kind =
     ap is_writing (sym e) in true≢false (is ∙ none)))

@@ -336,7 +336,8 @@ module _ (z : Sizes) (walk : Walk) (w : ℕ) (v : ListView) (h : Holds z v.known
   pub end_broken : (p link : ℕ) (v2 u : ListView) → Ended p link v v2 → invalid_bit link ≡ 1 → Cleared 5 5 5 v2.known u.known
       → Quiet 0 v2 u
       → p ≡ cell_place z (slot v.known w).named 2 → CameHere z walk w v u Broken
-  end_broken p link v2 u e bad c idles at = let made = e.invalid bad in let is = known_after load_step p link link [] [] v.known v v2 made in
+  end_broken p link v2 u e bad c idles at = let made = e.invalid bad in let is = known_after load_step p link link [] [] v.known v v2 made
+      in
       broken v2 u (same_known v v2 is) (subst (λ (q : ListPass). Holds z q walk.call walk.anchor w) (sym is) h)
       (load_bad _ p link v.known v v2 refl refl bad made at) c idles
 

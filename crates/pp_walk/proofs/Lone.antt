@@ -1,5 +1,5 @@
 -- A turn of a pass that is alone on its pool, where no record that can be reached is removed, isn't lost.
-use Rattle.std.proofs.Common.{◌≡◌, ◌≢◌, ℕ, ◌+◌, ◌<◌, ◌≤◌, ◌⊎◌, inl, inr, ⊎_elim, true, false, List, [], ◌∷◌, ◌++◌, map, length}
+use Rattle.std.proofs.Common.{◌≡◌, ◌≢◌, ℕ, ◌<◌, inl, inr, ⊎_elim, true, false, List, [], ◌∷◌, map}
 use Rattle.std.proofs.Common.{Bool, get_or, refl, sym, ap, ◌∙◌, subst, arith}
 use Rattle.std.proofs.Math.Decide.{ℕ_discrete}
 use mathlib.Core.Logic.{dite}
@@ -18,7 +18,7 @@ use Rattle.pp_rule.specs.Rule.{Base}
 use Rattle.pp_rule.specs.Reached.{Reached, SameReached}
 use Rattle.pp_rule.specs.Alone.{IsRun}
 use Rattle.pp_rule.proofs.Put.{in_nil, in_first, in_later, in_right, in_cases}
-use Rattle.pp_rule.proofs.Undisturbed.{by_state, calm_stays, calm_finds, FoundThen, walks_calm, reached_back}
+use Rattle.pp_rule.proofs.Undisturbed.{by_state, calm_stays, calm_finds, walks_calm, reached_back}
 use Rattle.pp_base.specs.declared.source.Place.{Place}
 use Rattle.pp_base.specs.declared.source.Place.TheVariants.{Head, Walk as Word}
 use Rattle.pp_base.specs.declared.source.Side.TheVariants.{Left}
@@ -26,12 +26,12 @@ use Rattle.pp_base.specs.Sources.{source_place}
 use Rattle.pp_base.specs.Named.{NamedStep, name_of, loads}
 use Rattle.pp_lists.specs.declared.own.ListOwn.{ListOwn}
 use Rattle.pp_lists.specs.Lists.{ListPass, ListState, Lists}
-use Rattle.pp_lists.specs.Walks.{Heap, heap, Source, at_head, at_record, word_at, IsLive}
+use Rattle.pp_lists.specs.Walks.{heap, Source, at_head, at_record, word_at, IsLive}
 use Rattle.pp_lists.specs.Turns.{ListView}
 use Rattle.pp_lists.proofs.Heaps.{sane_of}
 use Rattle.pp_lists.proofs.Closing.{list_reached}
 use Rattle.pp_walk.specs.declared.walk.Walk.{Walk}
-use Rattle.pp_walk.specs.Trod.{Why, MetInvalid, MetOther}
+use Rattle.pp_walk.specs.Trod.{Why}
 use Rattle.pp_walk.specs.Turns.{Turned}
 use Rattle.std.specs.Prelude.{bit_or}
 use Rattle.atomic_table.specs.declared.shared.Seat.{Seat}
@@ -51,13 +51,13 @@ use Rattle.pp_walk.specs.Turns.{TurnsTo}
 use Rattle.pp_walk.specs.Lone.{list_opens, words_of, Sees, IsLone, IsOwn, IsStanding}
 
 -- a step is named among its names
-in_names : (x : Step) (xs : List Step) → IsIn x xs → IsIn (name_of x) (map name_of xs)
+pub in_names : (x : Step) (xs : List Step) → IsIn x xs → IsIn (name_of x) (map name_of xs)
 in_names x [] i = absurd (in_nil x i)
 in_names x (y ∷ ys) i = ⊎_elim
     (λ (e : x ≡ y). subst (λ (s : Step). IsIn (name_of x) (name_of s ∷ map name_of ys)) e (in_first (name_of x) (map name_of ys)))
     (λ (later : IsIn x ys). in_later (name_of x) (name_of y) (map name_of ys) (in_names x ys later)) (in_cases x y ys i)
 
-of_names : (s : NamedStep) (xs : List Step) → IsIn s (map name_of xs) → (x : Step) × (IsIn x xs × (name_of x ≡ s))
+pub of_names : (s : NamedStep) (xs : List Step) → IsIn s (map name_of xs) → (x : Step) × (IsIn x xs × (name_of x ≡ s))
 of_names s [] i = absurd (in_nil s i)
 of_names s (y ∷ ys) i = ⊎_elim
     (λ (e : s ≡ name_of y). (y, (in_first y ys, sym e)))
@@ -65,17 +65,17 @@ of_names s (y ∷ ys) i = ⊎_elim
     (in_cases s (name_of y) (map name_of ys) i)
 
 -- the source at a place
-abbrev source_at : ListPass → Place → Source
+abbrev pub source_at : ListPass → Place → Source
 source_at q (Head h) = at_head h
 source_at q (Word i) = at_record (slot q i).named
 
-word_is : (z : Sizes) (words : List ℕ) (g : ListState) (q : ListPass) (at : Place)
+pub word_is : (z : Sizes) (words : List ℕ) (g : ListState) (q : ListPass) (at : Place)
     → get_or words (source_place z q at Left) 0 ≡ word_at (heap z words g.status) (source_at q at)
 unfolding cell_word head_word
 word_is z words g q (Head h) = refl
 word_is z words g q (Word i) = refl
 
-cell_is : (z : Sizes) (words : List ℕ) (n : ℕ) → get_or words (cell_place z n 2) 0 ≡ cell_word words z n 2
+pub cell_is : (z : Sizes) (words : List ℕ) (n : ℕ) → get_or words (cell_place z n 2) 0 ≡ cell_word words z n 2
 unfolding cell_word
 cell_is z words n = refl
 
@@ -91,25 +91,25 @@ module _ (z : Sizes) (v : ListView) (s : Sees z v) where
       (subst (λ (y : Sizes). Lists y (words_of y v) st.pool) s.sizes st.added) st.known_is)
 
   module _ (g : ListState) (b : Base 1 z (words_of z v) g) (lists : Lists z (words_of z v) g) (is : g.of v.known.number ≡ v.known) where
-    held_at : (j : ℕ) → j < 5 → (slot v.known j).held ≡ true → Held z (words_of z v) g.status (slot v.known j)
+    pub held_at : (j : ℕ) → j < 5 → (slot v.known j).held ≡ true → Held z (words_of z v) g.status (slot v.known j)
     held_at j lt on = subst (λ (q : ListPass). (slot q j).held ≡ true → Held z (words_of z v) g.status (slot q j)) is
         (b.hazards.held v.known.number j s.low lt) on
 
     -- what it holds is attached
-    held_attached : IsLone z v → (j : ℕ) → j < 5 → (slot v.known j).held ≡ true
+    pub held_attached : IsLone z v → (j : ℕ) → j < 5 → (slot v.known j).held ≡ true
         → IsNumber z (slot v.known j).named × (g.status (slot v.known j).named ≡ attached)
     held_attached lone j lt on = let h = held_at j lt on in
         (h.number, lists.listed.marked (slot v.known j).named h.number h.used (lone.held j lt on))
 
-    live_at : IsLone z v → (at : Place) → IsOwn z v.known at → IsLive z (heap z (words_of z v) g.status) (source_at v.known at)
+    pub live_at : IsLone z v → (at : Place) → IsOwn z v.known at → IsLive z (heap z (words_of z v) g.status) (source_at v.known at)
     live_at lone (Head h) own = own
     live_at lone (Word i) own = held_attached lone i own.0 own.1
 
-    reached_at : (n : ℕ) → IsNumber z n → g.status n ≡ attached → Reached 1 z (words_of z v) n
+    pub reached_at : (n : ℕ) → IsNumber z n → g.status n ≡ attached → Reached 1 z (words_of z v) n
     reached_at n number st = list_reached z (words_of z v) g n b lists number st
 
     -- it is so in later words too
-    source_same : IsLone z v → (words : List ℕ) → SameReached 1 z (words_of z v) words → (at : Place) → IsOwn z v.known at
+    pub source_same : IsLone z v → (words : List ℕ) → SameReached 1 z (words_of z v) words → (at : Place) → IsOwn z v.known at
         → get_or words (source_place z v.known at Left) 0 ≡ get_or (words_of z v) (source_place z v.known at Left) 0
     unfolding cell_word head_word
     source_same lone words same (Head h) own = same.heads h own
@@ -117,7 +117,7 @@ module _ (z : Sizes) (v : ListView) (s : Sees z v) where
         same.cells (slot v.known i).named 2 a.0 (omega arith) (reached_at (slot v.known i).named a.0 a.1)
 
     -- the record to which the link there leads is attached
-    next_attached : IsLone z v → (at : Place) → IsOwn z v.known at → (w : ℕ)
+    pub next_attached : IsLone z v → (at : Place) → IsOwn z v.known at → (w : ℕ)
         → w ≡ get_or (words_of z v) (source_place z v.known at Left) 0 → target w ≢ 0
         → IsNumber z (target w) × (g.status (target w) ≡ attached)
     next_attached lone at own w is_word some = subst (λ (x : ℕ). IsNumber z (target x) × (g.status (target x) ≡ attached))
@@ -141,7 +141,8 @@ module _ (z : Sizes) (was : Walk) (lost : ℕ) (calls : List Placed) (own : List
 
   -- the heads and the records that can be reached are as they were
   pub same_words : SameReached 1 z (words_of z v) (words_of z w)
-  same_words = calm_stays 1 (omega arith) (λ (c : Change). c.caller) (list_opens z) z v.known.number v w t.trod.stepped.steps lone.one sv.low
+  same_words = calm_stays 1 (omega arith) (λ (c : Change). c.caller) (list_opens z) z v.known.number v w t.trod.stepped.steps lone.one
+      sv.low
       (run_of z w sw) t.trod.stepped.order t.trod.stepped.made (λ x i. walks_calm x.kind (walks x i))
 
   -- each load found a word that stood there
@@ -192,7 +193,8 @@ module _ (z : Sizes) (was : Walk) (lost : ℕ) (calls : List Placed) (own : List
           let bad = m.bad in omega arith
       refuted ne (inr (inr m)) = let f = found_then m.step (inside m.step m.inside) (kind_of m.step.kind 6 m.again refl) in
           m.other (state_at z v sv lone.one m.step.word t.first (λ g b lists is.
-          f.1.1 ∙ (ap (λ (p : ℕ). get_or f.0 p 0) m.at ∙ (source_same z v sv g b lists is lone f.0 f.1.0 was.at own_at ∙ sym first_stands))))
+          f.1.1 ∙ (ap (λ (p : ℕ). get_or f.0 p 0) m.at ∙ (source_same z v sv g b lists is lone f.0 f.1.0 was.at own_at
+          ∙ sym first_stands))))
 
   -- After it no record that can be reached is removed, nor one that the pass holds.
   pub lone_now : IsLone z w
@@ -229,9 +231,11 @@ sees_of z s number share walk p k run sizes = record {
 pub own_place : (z : Sizes) (q : ListPass) (w : Walk) → IsWalk z q w → IsOwn z q w.at
 own_place z q w is = by w.fresh is.under
   where
-    on : (at anchor : Place) → StandsOn z q (key_of w.call) at → IsAnchor z q (key_of w.call) anchor → HasGathered q at anchor → IsOwn z q at
+    on : (at anchor : Place) → StandsOn z q (key_of w.call) at → IsAnchor z q (key_of w.call) anchor → HasGathered q at anchor
+        → IsOwn z q at
     on (Head h) anchor stands anchored (nothing f c same) = (subst (λ (p : Place). IsAnchor z q (key_of w.call) p) same anchored).0
-    on (Head h) anchor stands anchored (chained i link e low held apart first some_made learnt flag joined) = absurd (let f : Head h ≡ Word i = e in cc)
+    on (Head h) anchor stands anchored (chained i link e low held apart first some_made learnt flag joined) = absurd
+        (let f : Head h ≡ Word i = e in cc)
     on (Word i) anchor stands anchored g = (stands.0, stands.1)
 
     by : (b : Bool) → IsUnder b z q w → IsOwn z q w.at
@@ -256,7 +260,8 @@ lone_turns z was w v u (At f) sv su is t lone = let sees = su (t.turned.rest.siz
 pub finds_there : {kind place word left : ℕ} {changes : List Change} {placed : List Placed} (z : Sizes) (known : ListPass)
     (v u : ListView) → z.passes ≡ 1 → Sees z v → Sees z u → MadeStep kind place word left changes placed known v u → stores kind ≡ false
     → word ≡ get_or (words_of z v) place 0
-finds_there z known v u one sv su made silent = finds_standing 1 list_opens Lists z {caller = λ (c : Change). c.caller} known v u one sv.low made
+finds_there z known v u one sv su made silent = finds_standing 1 list_opens Lists z {caller = λ (c : Change). c.caller} known v u one sv.low
+    made
     (run_of z u su) silent
 
 -- what is marked by a pass alone had no FLAG
@@ -265,7 +270,8 @@ pub lone_marks : (z : Sizes) (j found : ℕ) (v u : ListView) → Sees z v → S
     → IsLone z v → flag_bit found ≡ 1 → ⊥
 lone_marks z j found v u sv su low on made lone flag =
     let there = finds_there z v.known v u lone.one sv su (made flag) refl in
-    let plain : flag_bit found ≡ 0 = ap flag_bit (there ∙ cell_is z (words_of z v) (slot v.known j).named) ∙ lone.held j low on in omega arith
+    let plain : flag_bit found ≡ 0 = ap flag_bit (there ∙ cell_is z (words_of z v) (slot v.known j).named) ∙ lone.held j low on in
+    omega arith
 
 -- an exchange of the word that stands there succeeds
 pub lone_exchanges : (z : Sizes) (at first found : ℕ) (v u : ListView) → Sees z v → Sees z u

@@ -1,9 +1,9 @@
 -- A turn after its first load comes together.
-use Rattle.std.proofs.Common.{◌≡◌, ℕ, ◌+◌, ◌^◌, ◌<◌, ◌≤◌, true, false, cond, nat_lt, List, [], ◌∷◌, length, Option, inl, inr, ◌⊎◌, ⊎_elim}
+use Rattle.std.proofs.Common.{◌≡◌, ℕ, ◌+◌, ◌^◌, ◌<◌, ◌≤◌, true, false, cond, nat_lt, List, [], ◌∷◌, length, Option, inl, inr, ⊎_elim}
 use Rattle.pp_walk.proofs.Clearing.{cleared_names}
 use Rattle.pp_link.specs.Places.{cell_place}
 use Rattle.pp_link.specs.Links.{target}
-use Rattle.std.proofs.Common.{refl, sym, ap, ◌∙◌, subst, arith}
+use Rattle.std.proofs.Common.{sym, ap, ◌∙◌, subst, arith}
 use Rattle.pp_link.specs.declared.layout.Sizes.{Sizes}
 use Rattle.pp_model.specs.declared.Call.{Call}
 use Rattle.pp_model.specs.declared.Placed.{Placed}

@@ -43,7 +43,8 @@ strand_made [] v w is = strand_none v w is
 strand_made (s ∷ steps) v w m = strand_both (s ∷ []) steps [] [] v m.0 w
     (strand_one s.kind s.place s.word m.1.0.left [] [] m.1.0.known v m.0 m.1.0.made m.1.0.number) (strand_made steps m.0 w m.1.1)
 
-unfoldable pub trod_of : (lost : ℕ) (steps : List NamedStep) (calls : List Placed) (v w : ListView) → Strand steps calls v w → 0 < length steps
+unfoldable pub trod_of : (lost : ℕ) (steps : List NamedStep) (calls : List Placed) (v w : ListView) → Strand steps calls v w
+    → 0 < length steps
     → FindSo lost steps → WriteNoLink steps → Trod lost calls v w
 trod_of lost steps calls v w s some_made so writes = record {
   stepped = s.stepped;

@@ -1,7 +1,6 @@
 -- Whole turns of a walk.
 use Rattle.std.proofs.Common.{◌≡◌, ◌≢◌, ℕ, ◌+◌, ◌%◌, ◌^◌, ◌<◌, ◌≤◌, Bool, true, false, cond, nat_eq, nat_lt, List, [], ◌∷◌, ◌++◌}
 use Rattle.std.proofs.Common.{length, inl, inr}
-use Rattle.pp_link.specs.Places.{cell_place}
 use Rattle.pp_walk.proofs.Clearing.{cleared_names}
 use Rattle.std.proofs.Common.{Option, None, refl, sym, ap, ◌∙◌, subst, arith, true≢false, append-nil, ltb-true, eq-eqb}
 use Rattle.std.specs.Prelude.{min}
@@ -43,7 +42,7 @@ use Rattle.pp_walk.specs.Roles.{IsWalk, Walking, Counts, nothing, most}
 use Rattle.pp_walk.specs.Roles.{lower_of, StandsOn}
 use Rattle.pp_walk.specs.Trod.{Quiet, RestOfTurn}
 use Rattle.pp_walk.specs.Turns.{TurnsTo, Turned, Arrives, Answers}
-use Rattle.pp_walk.specs.Parts.{LoadsFirst, BeginsAgain, CameOn, SameOf, EndsAt, gathered_at, finding, SameBut}
+use Rattle.pp_walk.specs.Parts.{LoadsFirst, BeginsAgain, CameOn, EndsAt, gathered_at, finding, SameBut}
 use Rattle.pp_walk.proofs.Counting.{rest_through, same_self, writes_one, writes_none, writes_both}
 use Rattle.pp_walk.proofs.Standing.{begins_again, chains_of, Chains, anchor_on}
 use Rattle.pp_walk.proofs.Finding.{found_there, found_is, found_nil, plain_target}
@@ -348,6 +347,7 @@ module _ (z : Sizes) (walk : Walk) (first : ℕ) (v u : ListView) (is : IsWalk z
             (subst (λ (o : ListOwn). Answers o (found_at (key_of walk.call) (slot w.known i).key
             (slot w.known i).value link) e.calls w) own_u e.answers);
         end_is = plain_target n ∙ (number ∙ c.2);
+        anchor_is = refl;
       }
 
 -- It ended at nil, by its first load.
@@ -415,6 +415,7 @@ turn_nil z walk first v u is l nil = by (changes (reply_at l.own.call None)) ref
               (l.counts ∙ ap (λ (cs : List Rattle.pp_lists.specs.declared.own.Gathered.Gathered). min (length cs) most) (sym chain_is));
           answers = answers;
           end_is = plain_target 0 ∙ sym nil.1;
+          anchor_is = refl;
         }
       where
         empty_0 : (j : ℕ) → j < 5 → Word j ≢ walk.anchor → j ≢ l.own.first → j ≢ l.own.at → IsEmpty (slot v.known j)

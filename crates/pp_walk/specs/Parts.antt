@@ -184,9 +184,11 @@ abbrev pub CameOn : Sizes → Walk → ℕ → ℕ → ListView → ListView →
 CameOn z walk place first v u Moved = SameBut (target first) v u × Walking z u.known walk.call walk.at walk.anchor
     × SameGathered v.known.own u.known.own × RestOfTurn z 1 place first v u × (is_look walk.call ≡ true)
 CameOn z walk place first v u Broken = SameBut (target first) v u × BeginsAgain u.known walk.call × RestOfTurn z 1 place first v u
-CameOn z walk place first v u (Anchors i) = SameBut (target first) v u × AnchorsAt z walk.call i v.known.own u × RestOfTurn z 0 place first v u
+CameOn z walk place first v u (Anchors i) = SameBut (target first) v u × AnchorsAt z walk.call i v.known.own u × RestOfTurn z 0 place first
+    v u
     × (lower_of v.known walk.at < lower_of u.known (Word i)) × (lower_of u.known (Word i) ≤ 2 ^ 64)
-CameOn z walk place first v u (Gathers i) = SameBut (target first) v u × GathersAt z walk.call walk.anchor i v.known.own u × RestOfTurn z 0 place first v u
+CameOn z walk place first v u (Gathers i) = SameBut (target first) v u × GathersAt z walk.call walk.anchor i v.known.own u
+    × RestOfTurn z 0 place first v u
     × (lower_of v.known walk.at < lower_of u.known (Word i)) × (lower_of u.known (Word i) ≤ 2 ^ 64)
 CameOn z walk place first v u (Ends i key link) = SameBut (target first) v u
     × ((last : ListView) × (RestOfTurn z 0 place first v last × EndsAt z walk.call walk.anchor i key link v.known.own last u))

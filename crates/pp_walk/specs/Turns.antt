@@ -98,6 +98,7 @@ pub record Arrives (z : Sizes) (was : Walk) (f : Found) (before now : ListView) 
   pub answers : Answers own (found_in now.known f) calls now
   -- the end is where the link led
   pub end_is : target (word_of f.end) ≡ target turned.first
+  pub anchor_is : f.anchor ≡ was.anchor
 
 -- What a turn came to.
 abbrev pub TurnsTo : Sizes → Walk → Walk → ListView → ListView → Turn → Type 0

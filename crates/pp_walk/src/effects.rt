@@ -83,7 +83,7 @@ pub fn mark_end(
 }
 
 /// Detaches by one exchange what was gathered behind an anchor, up to this end. False says that the anchor's link doesn't lead to the
-/// first gathered record any more, or not without bits.
+/// first gathered record any more, or not without bits. A pass that is alone on its pool is never told so where that link stands there.
 pub fn detach_run(
     pool: &Pool<ListShape>,
     pass: &mut Pass<ListShape>,
@@ -96,6 +96,8 @@ pub fn detach_run(
     requires may { MayDetachRun pool.now.layout (known pass.old.seat) anchor first end }
     ensures same { IsSame pass.old.seat pass.new.seat }
     ensures detaches { DetachesSo pool.now.layout anchor (word_of first) (word_of end) (view pass.old.seat) (view pass.new.seat) result }
+    ensures alone { IsStanding pool.now.layout (source_place pool.now.layout (known pass.old.seat) anchor Left) (word_of first)
+        (view pass.old.seat) → result ≡ true }
     ensures rest { IsAtRest (known pass.new.seat) pass.new.purse }
     ensures walk { pass.new.walk ≡ pass.old.walk }
     ensures purse { SameFree pass.old.purse pass.new.purse }

@@ -2,7 +2,8 @@
 
 ghost use Rattle.std.specs.Prelude.{◌≡◌, ◌≤◌, IfSome};
 ghost use Rattle.clap.specs.Words.{found_of, first_value};
-ghost use Rattle.pp_words.specs.Words.{InRange, MakeFits, kind_of, number_within, number_or, callers_of, made_by, make_of, settings_by, text_of};
+ghost use Rattle.pp_words.specs.Words.{InRange, MakeFits, kind_of, number_within, number_or, callers_of, made_by, make_of, settings_by};
+ghost use Rattle.pp_words.specs.Words.{text_of};
 
 use crate::{Kind, Settings};
 use clap::ArgMatches;

@@ -1,8 +1,8 @@
-use Rattle.std.proofs.Common.{arith, ◌≡◌, ℕ, ◌+◌, ◌≤◌, ◌++◌, List, [], ◌∷◌, length, take, subst, sym, ap, length-append}
+use Rattle.std.proofs.Common.{arith, length, ap, length-append}
 use Rattle.std.proofs.lemmas.List.{take_more, take_all}
 use Rattle.std.proofs.lemmas.Option.{slice_get-get_or}
 use Rattle.pp_model.specs.declared.Call.TheVariants.{Get}
-use Rattle.pp_model.specs.MapCalls.{AnswersCalls, none, more}
+use Rattle.pp_model.specs.MapCalls.{none, more}
 use Rattle.pp_callers.proofs.make_calls.Goals as goal
 
 pub loop-call-init : goal.loop-call-init
@@ -17,7 +17,8 @@ loop-call-init g c = record {
 
 pub make_call-answer-requires-clause-may : goal.make_call-answer-requires-clause-may
 make_call-answer-requires-clause-may g c = record {
-  key = c.requires.may.keys c.loop-call.call-index _ (slice_get-get_or c.args.calls.now c.loop-call.call-index (Get 0) c.loop-call-test.true);
+  key = c.requires.may.keys c.loop-call.call-index _ (slice_get-get_or c.args.calls.now c.loop-call.call-index (Get 0)
+      c.loop-call-test.true);
   budget_left = c.requires.races;
   room = omega (arith, c.loop-call.invariant.room);
 }
@@ -28,7 +29,7 @@ loop-call-preserved g c = record {
   idle = c.make_call-answer.ensures.idle;
   made = rw (take_more c.args.calls.now c.loop-call.call-index (Get 0) c.loop-call-test.true, c.enter.ensures.items)
       (more _ _ _ _ _ _ c.loop-call.invariant.made c.make_call-answer.ensures.answered);
-  room = omega (arith, c.loop-call.invariant.room, c.make_call-answer.ensures.answered.grew.room);
+  room = omega (arith, c.loop-call.invariant.room, c.make_call-answer.ensures.answered.told.grew.room);
   count = omega (arith, c.loop-call.invariant.count, simp length-append at (ap length c.enter.ensures.items));
   space = omega (arith, c.loop-call.invariant.space, c.enter.ensures.room);
 }

@@ -26,8 +26,10 @@ pub returns : goal.returns
 returns g c = let pass = c.args.pass.now in let t = c.store_word.ensures.told in let seat = c.store_word.new.seat in
     let is = made_known seat.me t.0.0.1 in record {
       same = record { table_is = c.store_word.ensures.table; number = ap (λ q. q.number) is; sizes = ap (λ q. q.sizes) is };
-      made = subst (λ (k : ℕ). MadeQuietStep clear_step k 0 0 (clearing g.S.Shape.forget c.args.word (known pass.seat)) (view pass.seat) (view seat))
-          (c.walk_word-place.ensures ∙ ap (λ (p : ℕ). walk_place c.args.pool.now.layout p c.args.word) (sym pass.keeping.number_is)) t.0.0.1;
+      made = subst (λ (k : ℕ). MadeQuietStep clear_step k 0 0 (clearing g.S.Shape.forget c.args.word (known pass.seat)) (view pass.seat)
+          (view seat))
+          (c.walk_word-place.ensures ∙ ap (λ (p : ℕ). walk_place c.args.pool.now.layout p c.args.word) (sym pass.keeping.number_is))
+          t.0.0.1;
       gone = t.0.1;
       purse = refl;
     }

@@ -2,12 +2,13 @@ use Rattle.std.proofs.Common.{ℕ, ◌<◌, ◌≤◌, List, length, sym, ◌∙
 use Rattle.std.proofs.Math.Bool.{false≢true}
 use Rattle.pp_link.specs.declared.layout.Sizes.{Sizes}
 use Rattle.pp_base.specs.Passes.{view}
-use Rattle.pp_purse.proofs.Purses.{found, ran_out, enough}
+use Rattle.pp_purse.proofs.Purses.{found, ran_out}
 use Rattle.pp_purse.proofs.find_free.Goals as goal
 
 pub returns-clause-finds : goal.returns-clause-finds
 returns-clause-finds g c = let old = c.args.pass.now in let mid = c.reclaim.new.pass in let new = c.collect.new.pass in
-    found g.S.Shape.SIDES c.args.pool.now.layout c.reclaim.result c.args.need old.seat mid.seat (view new.seat) old.purse mid.purse new.purse
+    found g.S.Shape.SIDES c.args.pool.now.layout c.reclaim.result c.args.need old.seat mid.seat (view new.seat) old.purse mid.purse
+    new.purse
     c.reclaim.ensures.reclaims c.collect.ensures.shelves c.collect.ensures.only c.collect.ensures.begins
 
 pub returns-clause-out : goal.returns-clause-out

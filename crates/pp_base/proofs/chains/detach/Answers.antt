@@ -38,7 +38,8 @@ invariant_of-pass g c = let S = g.S.Shape in let z = c.args.pool.now.layout in l
     let made = t.0.1.same c.if-found-expected.true in record {
       keeping = keeping_taken S.SENTINELS S.SIDES pass.seat seat _ _ _ _ _ _ chain hand q.own pass.keeping
           (made_alone seat.me t.0.0 made) t.1 kept
-          (chained_first S.SIDES word (target first) (target new) chain law) c.requires.few c.take_in_hand.ensures (made_known seat.me made);
+          (chained_first S.SIDES word (target first) (target new) chain law) c.requires.few c.take_in_hand.ensures
+          (made_known seat.me made);
       run = c.exchange_word-found.ensures.run;
     }
 

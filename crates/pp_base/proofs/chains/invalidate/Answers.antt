@@ -30,7 +30,8 @@ set_bits-requires-clause-allows g c = let S = g.S.Shape in let pool = c.args.poo
 
 pub invariant_of-pass : goal.invariant_of-pass
 invariant_of-pass g c = let pass = c.args.pass.now in let t = c.set_bits.ensures.told in let seat = c.set_bits.new.seat in record {
-  keeping = keeping_invalidated g.S.Shape.SENTINELS g.S.Shape.SIDES pass.seat seat _ _ _ _ _ c.args.chain c.args.number (side_number c.args.side) pass.keeping
+  keeping = keeping_invalidated g.S.Shape.SENTINELS g.S.Shape.SIDES pass.seat seat _ _ _ _ _ c.args.chain c.args.number
+      (side_number c.args.side) pass.keeping
       (made_alone seat.me t.0.0 t.0.1.made) t.1 (made_known seat.me t.0.1.made);
   run = c.set_bits.ensures.run;
 }
@@ -38,7 +39,8 @@ invariant_of-pass g c = let pass = c.args.pass.now in let t = c.set_bits.ensures
 pub returns : goal.returns
 returns g c = let pass = c.args.pass.now in let t = c.set_bits.ensures.told in let seat = c.set_bits.new.seat in
     let n : ℕ = c.args.number in let side : ℕ = side_number c.args.side in record {
-      same = same_known pass.seat seat (with_chain c.args.chain (invalidated n side (chain_at (known pass.seat) c.args.chain)) (known pass.seat))
+      same = same_known pass.seat seat (with_chain c.args.chain (invalidated n side (chain_at (known pass.seat) c.args.chain))
+          (known pass.seat))
           (made_known seat.me t.0.1.made) refl refl c.set_bits.ensures.table;
       made = subst (λ (k : ℕ). Invalidated c.args.chain (chain_at (known pass.seat) c.args.chain) n side c.set_bits.result k
           (view pass.seat) (view seat))

@@ -27,7 +27,8 @@ returns g c = let pass = c.args.pass.now in let t = c.store_word.ensures.told in
       c.store_word.ensures.table;
   made = subst (λ (k : ℕ). MadeQuietStep unguard_step k 0 0 (with_frontier c.args.word 0
       (known pass.seat)) (view pass.seat) (view seat))
-      (c.frontier_word-place.ensures ∙ ap (λ (p : ℕ). frontier_place c.args.pool.now.layout p c.args.word) (sym pass.keeping.number_is)) t.0.1;
+      (c.frontier_word-place.ensures ∙ ap (λ (p : ℕ). frontier_place c.args.pool.now.layout p c.args.word) (sym pass.keeping.number_is))
+      t.0.1;
   walk = refl;
   purse = refl;
 }

@@ -11,7 +11,8 @@ use Rattle.pp_base.proofs.hazards.announce.Goals as goal
 
 pub store_word-requires-clause-allows : goal.store_word-requires-clause-allows
 store_word-requires-clause-allows g c = let S = g.S.Shape in let pool = c.args.pool.now in let pass = c.args.pass.now in
-    announces_on S.SIDES _ S.addition pool.layout _ _ _ pass.seat.me g.met.S.Shape.alike c.args.word c.args.number pass.keeping.lone c.requires.word c.requires.free
+    announces_on S.SIDES _ S.addition pool.layout _ _ _ pass.seat.me g.met.S.Shape.alike c.args.word c.args.number pass.keeping.lone
+    c.requires.word c.requires.free
     (c.walk_word-place.ensures ∙ ap (λ (p : ℕ). walk_place pool.layout p c.args.word) (sym pass.keeping.number_is))
 
 pub invariant_of-pass : goal.invariant_of-pass

@@ -11,7 +11,8 @@ use Rattle.pp_base.proofs.hazards.clear.Goals as goal
 
 pub store_word-requires-clause-allows : goal.store_word-requires-clause-allows
 store_word-requires-clause-allows g c = let S = g.S.Shape in let pool = c.args.pool.now in let pass = c.args.pass.now in
-    clears_on S.SIDES _ S.addition pool.layout _ _ _ pass.seat.me S.forget g.met.S.Shape.clears c.args.word pass.keeping.lone c.requires.word
+    clears_on S.SIDES _ S.addition pool.layout _ _ _ pass.seat.me S.forget g.met.S.Shape.clears c.args.word pass.keeping.lone
+    c.requires.word
     (c.walk_word-place.ensures ∙ ap (λ (p : ℕ). walk_place pool.layout p c.args.word) (sym pass.keeping.number_is))
 
 pub invariant_of-pass : goal.invariant_of-pass
@@ -25,7 +26,8 @@ pub returns : goal.returns
 returns g c = let pass = c.args.pass.now in let t = c.store_word.ensures.told in let seat = c.store_word.new.seat in
     let is = made_known seat.me t.0.1 in record {
       same = record { table_is = c.store_word.ensures.table; number = ap (λ q. q.number) is; sizes = ap (λ q. q.sizes) is };
-      made = subst (λ (k : ℕ). MadeQuietStep clear_step k 0 0 (clearing g.S.Shape.forget c.args.word (known pass.seat)) (view pass.seat) (view seat))
+      made = subst (λ (k : ℕ). MadeQuietStep clear_step k 0 0 (clearing g.S.Shape.forget c.args.word (known pass.seat)) (view pass.seat)
+          (view seat))
           (c.walk_word-place.ensures ∙ ap (λ (p : ℕ). walk_place c.args.pool.now.layout p c.args.word) (sym pass.keeping.number_is)) t.0.1;
       purse = refl;
     }

@@ -21,11 +21,12 @@ invariant_of-pass g c = let pass = c.args.pass.now in let t = c.load_word.ensure
 }
 
 pub returns : goal.returns
-returns g c = let S = g.S.Shape in let pass = c.args.pass.now in let t = c.load_word.ensures.told in let seat = c.load_word.new.seat in record {
-  same = same_confirmed pass.seat seat S.frozen c.args.at c.args.side c.args.word c.args.first c.load_word.result _ t.0.1
-      c.load_word.ensures.table;
-  confirmed = subst (λ (k : ℕ). Confirmed c.args.word c.args.first c.load_word.result k
-      (learning_at S.frozen c.args.at c.args.side c.load_word.result (known pass.seat)) (view pass.seat)
-      (view seat)) c.locate-place.ensures.place t.0.1;
-  purse = refl;
-}
+returns g c = let S = g.S.Shape in let pass = c.args.pass.now in let t = c.load_word.ensures.told in let seat = c.load_word.new.seat in
+    record {
+      same = same_confirmed pass.seat seat S.frozen c.args.at c.args.side c.args.word c.args.first c.load_word.result _ t.0.1
+          c.load_word.ensures.table;
+      confirmed = subst (λ (k : ℕ). Confirmed c.args.word c.args.first c.load_word.result k
+          (learning_at S.frozen c.args.at c.args.side c.load_word.result (known pass.seat)) (view pass.seat)
+          (view seat)) c.locate-place.ensures.place t.0.1;
+      purse = refl;
+    }

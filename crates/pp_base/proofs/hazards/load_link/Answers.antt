@@ -21,9 +21,11 @@ invariant_of-pass g c = let S = g.S.Shape in let pass = c.args.pass.now in let t
     }
 
 pub returns : goal.returns
-returns g c = let S = g.S.Shape in let pass = c.args.pass.now in let t = c.load_word.ensures.told in let seat = c.load_word.new.seat in record {
-  same = same_loaded pass.seat seat S.frozen c.args.at c.args.side c.load_word.result (made_known seat.me t.0.1.made) c.load_word.ensures.table;
-  loaded = subst (λ (k : ℕ). LoadedLink (learning_at S.frozen c.args.at c.args.side c.load_word.result
-      (known pass.seat)) c.load_word.result k (view pass.seat) (view seat)) c.locate-place.ensures.place t.0.1;
-  purse = refl;
-}
+returns g c = let S = g.S.Shape in let pass = c.args.pass.now in let t = c.load_word.ensures.told in let seat = c.load_word.new.seat in
+    record {
+      same = same_loaded pass.seat seat S.frozen c.args.at c.args.side c.load_word.result (made_known seat.me t.0.1.made)
+          c.load_word.ensures.table;
+      loaded = subst (λ (k : ℕ). LoadedLink (learning_at S.frozen c.args.at c.args.side c.load_word.result
+          (known pass.seat)) c.load_word.result k (view pass.seat) (view seat)) c.locate-place.ensures.place t.0.1;
+      purse = refl;
+    }

@@ -23,9 +23,11 @@ invariant_of-pass g c = let pass = c.args.pass.now in let t = c.load_word-found.
       keeping = keeping_reclaimed g.S.Shape.SENTINELS g.S.Shape.SIDES pass.seat seat _ _ _ _ _ _ found t.0.1.freed pass.keeping
           (made_alone seat.me t.0.0 t.0.1.made) t.1 is
           (c.part.ensures.free ∙ ap (λ (l : List ℕ). pass.purse.free.items ++ l)
-          (gone_are g.S.Shape.SENTINELS g.S.Shape.SIDES pass.seat _ _ _ pass.purse _ all found pass.keeping c.requires.flushed moved c.requires.words
+          (gone_are g.S.Shape.SENTINELS g.S.Shape.SIDES pass.seat _ _ _ pass.purse _ all found pass.keeping c.requires.flushed moved
+          c.requires.words
           ∙ sym t.0.1.numbers))
-          (c.part.ensures.retired ∙ stay_are g.S.Shape.SENTINELS g.S.Shape.SIDES pass.seat seat _ _ _ pass.purse _ all found t.0.1.freed pass.keeping
+          (c.part.ensures.retired ∙ stay_are g.S.Shape.SENTINELS g.S.Shape.SIDES pass.seat seat _ _ _ pass.purse _ all found t.0.1.freed
+          pass.keeping
           c.requires.flushed moved c.requires.words is)
           c.requires.flushed refl refl refl
           (room_parted (known pass.seat).sizes (known seat).sizes pass.purse c.part.new.free c.part.new.retired (ap (λ q. q.sizes) is)
@@ -37,8 +39,10 @@ pub returns-clause-purse : goal.returns-clause-purse
 returns-clause-purse g c = let pass = c.args.pass.now in let t = c.load_word-found.ensures.told in let seat = c.load_word-found.new.seat in
     let found = c.load_word-found.result in let all = c.sort_with_last.new.words in let moved = c.sort_with_last.ensures.same in record {
       free = c.part.ensures.free ∙ ap (λ (l : List ℕ). pass.purse.free.items ++ l)
-          (gone_are g.S.Shape.SENTINELS g.S.Shape.SIDES pass.seat _ _ _ pass.purse _ all found pass.keeping c.requires.flushed moved c.requires.words);
-      retired = c.part.ensures.retired ∙ stay_are g.S.Shape.SENTINELS g.S.Shape.SIDES pass.seat seat _ _ _ pass.purse _ all found t.0.1.freed
+          (gone_are g.S.Shape.SENTINELS g.S.Shape.SIDES pass.seat _ _ _ pass.purse _ all found pass.keeping c.requires.flushed moved
+          c.requires.words);
+      retired = c.part.ensures.retired ∙ stay_are g.S.Shape.SENTINELS g.S.Shape.SIDES pass.seat seat _ _ _ pass.purse _ all found
+          t.0.1.freed
           pass.keeping c.requires.flushed moved c.requires.words (made_known seat.me t.0.1.made);
       free_room = c.part.ensures.free_room;
       retired_room = c.part.ensures.retired_room;

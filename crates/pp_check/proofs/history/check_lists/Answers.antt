@@ -4,7 +4,8 @@ use Rattle.pp_check.proofs.history.check_lists.Goals as goal
 
 pub returns-in-Some : goal.returns-in-Some
 returns-in-Some c = λ text is.
-    misplaced_verdict text c.args.certificate.now is c.log.result.now c.loop-caller.caller c.in-Some.number c.list-list.result.now c.log.ensures
+    misplaced_verdict text c.args.certificate.now is c.log.result.now c.loop-caller.caller c.in-Some.number c.list-list.result.now
+    c.log.ensures
     c.loop-caller-test.true c.list-list.ensures c.requires.sound (c.loop-caller.invariant text is) c.in-Some.ensures
 
 pub loop-caller-preserved : goal.loop-caller-preserved

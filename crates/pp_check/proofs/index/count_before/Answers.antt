@@ -7,7 +7,8 @@ pub loop-low-preserved-then-is_before : goal.loop-low-preserved-then-is_before
 loop-low-preserved-then-is_before c = record {
   order = omega arith;
   within = c.loop-low.invariant.within;
-  below = λ k d lt. before_far c.args.index.now c.requires k _ d c.args.key c.args.at (omega arith) (omega (arith, c.loop-low.invariant.within))
+  below = λ k d lt. before_far c.args.index.now c.requires k _ d c.args.key c.args.at (omega arith)
+      (omega (arith, c.loop-low.invariant.within))
       (before_read c.args.index.now _ _ d c.args.key c.args.at (omega (arith, c.loop-low.invariant.within))
       (c.is_before.ensures.0 c.if-is_before.true));
   above = c.loop-low.invariant.above;

@@ -4,12 +4,14 @@ use Rattle.pp_check.proofs.index.value_at.Goals as goal
 
 pub returns-then-count-eq0 : goal.returns-then-count-eq0
 returns-then-count-eq0 c =
-    sym (none_found c.args.log.now c.args.index.now c.args.key c.args.place _ c.requires.index c.requires.within c.count_before-count.ensures
+    sym (none_found c.args.log.now c.args.index.now c.args.key c.args.place _ c.requires.index c.requires.within
+    c.count_before-count.ensures
     (λ j d lt is e. omega arith))
 
 pub returns-then-last-key : goal.returns-then-last-key
 returns-then-last-key c =
-    sym (none_found c.args.log.now c.args.index.now c.args.key c.args.place _ c.requires.index c.requires.within c.count_before-count.ensures
+    sym (none_found c.args.log.now c.args.index.now c.args.key c.args.place _ c.requires.index c.requires.within
+    c.count_before-count.ensures
     (λ j d lt is e. c.if-last-key.true
     (key_read c.args.index.now j _ d _ c.args.key (omega arith) (omega (arith, c.count_before-count.ensures.within)) e)))
 

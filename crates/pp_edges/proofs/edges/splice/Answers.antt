@@ -75,6 +75,7 @@ returns-clause-in_hand c = let z = c.args.pool.now.layout in let q = known c.arg
     let place = source_place z q c.args.ancestor c.args.side in
     λ e. path_in_hand z c.args.ancestor c.args.side (word_of c.args.successor) (word_of c.pack-new.result) (view c.args.pass.now.seat)
     (view c.try_unlink.new.pass.seat)
-    (subst (λ (u : Unlink). Unlinks 2 z has_mark tree_chain c.args.ancestor c.args.side (word_of c.args.successor) (word_of c.pack-new.result)
+    (subst (λ (u : Unlink). Unlinks 2 z has_mark tree_chain c.args.ancestor c.args.side (word_of c.args.successor)
+    (word_of c.pack-new.result)
     (view c.args.pass.now.seat)
     (view c.try_unlink.new.pass.seat) u) e c.try_unlink.ensures.unlinks)

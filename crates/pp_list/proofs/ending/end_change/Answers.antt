@@ -1,4 +1,4 @@
-use Rattle.std.proofs.Common.{ℕ, ◌+◌, length, refl, sym, ap, ◌∙◌, subst}
+use Rattle.std.proofs.Common.{ℕ, ◌+◌, length, sym, ap, ◌∙◌, subst}
 use Rattle.pp_base.specs.Passes.{known, view, IsAtRest, IsSame}
 use Rattle.pp_base.specs.declared.purse.Purse.{Purse}
 use Rattle.pp_calls.proofs.Purses.{same_share}
@@ -10,10 +10,12 @@ use Rattle.pp_list.proofs.ending.end_change.Goals as goal
 
 pub give-requires-clause-rest : goal.give-requires-clause-rest
 give-requires-clause-rest c = let old = c.args.pass.now in let mid = c.rest.new.pass in
-    rest_kept (known old.seat) (known mid.seat) old.purse mid.purse c.rest.ensures.rest (ap (λ p. p.spent) c.rest.ensures.purse) c.requires.rest
+    rest_kept (known old.seat) (known mid.seat) old.purse mid.purse c.rest.ensures.rest (ap (λ p. p.spent) c.rest.ensures.purse)
+    c.requires.rest
 
 pub returns-clause-tidies : goal.returns-clause-tidies
-returns-clause-tidies c = let old = c.args.pass.now in let mid = c.rest.new.pass in let given = c.give.new.pass in let done = c.tidy.new.pass in
+returns-clause-tidies c = let old = c.args.pass.now in let mid = c.rest.new.pass in let given = c.give.new.pass in
+    let done = c.tidy.new.pass in
     let new = c.set_going.new.pass in record {
       between = view given.seat;
       middle = given.purse;
@@ -29,7 +31,8 @@ returns-clause-tidies c = let old = c.args.pass.now in let mid = c.rest.new.pass
     }
 
 pub returns-clause-resting : goal.returns-clause-resting
-returns-clause-resting c = let old = c.args.pass.now in let mid = c.rest.new.pass in let given = c.give.new.pass in let done = c.tidy.new.pass in
+returns-clause-resting c = let old = c.args.pass.now in let mid = c.rest.new.pass in let given = c.give.new.pass in
+    let done = c.tidy.new.pass in
     let new = c.set_going.new.pass in let purse = c.set_going.ensures.purse in record {
       idle = (
         c.set_going.ensures.walk ∙ (c.tidy.ensures.walk ∙ (c.give.ensures.walk

@@ -1,4 +1,4 @@
-use Rattle.std.proofs.Common.{refl, sym, ap, ◌∙◌, subst}
+use Rattle.std.proofs.Common.{sym, ap, ◌∙◌, subst}
 use Rattle.pp_base.specs.Passes.{known}
 use Rattle.pp_walk.specs.Words.{AllEmpty, SameRest}
 use Rattle.pp_list.proofs.Resting.{rest_kept, walk_zero}

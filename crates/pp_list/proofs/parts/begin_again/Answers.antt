@@ -1,4 +1,4 @@
-use Rattle.std.proofs.Common.{refl, sym, ap, ◌∙◌, subst}
+use Rattle.std.proofs.Common.{ap}
 use Rattle.pp_base.specs.Passes.{known, view}
 use Rattle.pp_calls.proofs.Purses.{same_share}
 use Rattle.pp_list.specs.Turned.{HasLost}
@@ -10,7 +10,8 @@ use Rattle.pp_list.proofs.parts.begin_again.Goals as goal
 
 pub lose-requires-clause-rest : goal.lose-requires-clause-rest
 lose-requires-clause-rest c = let old = c.args.pass.now in let mid = c.rest.new.pass in
-    rest_kept (known old.seat) (known mid.seat) old.purse mid.purse c.rest.ensures.rest (ap (λ p. p.spent) c.rest.ensures.purse) c.requires.rest
+    rest_kept (known old.seat) (known mid.seat) old.purse mid.purse c.rest.ensures.rest (ap (λ p. p.spent) c.rest.ensures.purse)
+    c.requires.rest
 
 pub returns-clause-part : goal.returns-clause-part
 returns-clause-part c = let z = c.args.pool.now.layout in let g = c.args.going.now in let old = c.args.pass.now in

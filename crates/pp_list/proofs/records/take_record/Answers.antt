@@ -1,8 +1,7 @@
-use Rattle.std.proofs.Common.{◌≡◌, ℕ, ◌≤◌, None, Option, sym, ap, ◌∙◌, subst, length}
-use Rattle.pp_pool.specs.declared.fresh.Fresh.{Fresh}
+use Rattle.std.proofs.Common.{◌≡◌, sym, ap, ◌∙◌, subst}
 use Rattle.pp_base.specs.Passes.{known, view, IsAtRest}
 use Rattle.pp_list.specs.Purses.{HasOut}
-use Rattle.pp_list.proofs.Taking.{took_already, take_some, take_none, take_spent}
+use Rattle.pp_list.proofs.Taking.{take_some, take_none, take_spent}
 use Rattle.pp_list.proofs.records.take_record.Goals as goal
 
 pub returns-clause-rest : goal.returns-clause-rest

@@ -10,6 +10,8 @@ use Rattle.pp_list.proofs.Arriving.{holds_first}
 use Rattle.pp_list.proofs.Losing.{four_chains}
 use Rattle.pp_list.proofs.Trying.{detached_on, detach_lost, at_detach, unstruck_at, missed_holds, tried_long}
 use Rattle.pp_list.proofs.Treading.{turned_by, lost_as}
+use Rattle.pp_list.specs.declared.going.Next.{Next}
+use Rattle.pp_list.specs.Lone.{LoneAt}
 use Rattle.pp_list.proofs.turns.detach.Goals as goal
 
 pub returns-then-detach_run-clause-turned : goal.returns-then-detach_run-clause-turned
@@ -47,3 +49,11 @@ returns-clause-turned c = let z = c.args.pool.now.layout in let g = c.args.going
     c.detach_run.ensures.purse d)
     (lost_as z old.share mid.share g c.begin_again.new.going u w mid.purse mid.purse new.purse c.begin_again.result share refl
     c.begin_again.ensures.part) c.begin_again.ensures.early
+
+pub returns-then-detach_run-clause-alone : goal.returns-then-detach_run-clause-alone
+returns-then-detach_run-clause-alone c = λ lone. absurd (subst (λ (n : Next). LoneAt c.args.pool.now.layout n (view c.args.pass.now.seat))
+    c.requires.at lone)
+
+pub returns-clause-alone : goal.returns-clause-alone
+returns-clause-alone c = λ lone. absurd
+    (subst (λ (n : Next). LoneAt c.args.pool.now.layout n (view c.args.pass.now.seat)) c.requires.at lone)

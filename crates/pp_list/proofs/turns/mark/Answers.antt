@@ -13,10 +13,15 @@ use Rattle.pp_lists.specs.Lists.{ListPass}
 use Rattle.pp_walk.proofs.Finding.{leads_end}
 use Rattle.pp_list.specs.declared.going.Next.TheVariants.{Unlinks}
 use Rattle.std.proofs.Common.{true}
+use Rattle.std.proofs.lemmas.Bool.{false≢true}
 use Rattle.pp_list.specs.Turned.{HasLost, ListTurned}
 use Rattle.pp_list.proofs.Marking.{at_mark, mark_changes, real_end, mark_lost, unmarked_yet, marked_on}
 use Rattle.pp_list.proofs.Treading.{turned_by, lost_as}
 use Rattle.pp_list.proofs.Trying.{tried_long}
+use Rattle.pp_walk.proofs.Lone.{sees_of}
+use Rattle.pp_list.specs.declared.going.Next.{Next}
+use Rattle.pp_list.specs.Lone.{LoneAt}
+use Rattle.pp_walk.proofs.LoneEffects.{marks_lone}
 use Rattle.pp_list.proofs.turns.mark.Goals as goal
 
 pub mark_end-requires-clause-leads : goal.mark_end-requires-clause-leads
@@ -65,3 +70,20 @@ returns-clause-turned c = let z = c.args.pool.now.layout in let g = c.args.going
       spent = y.rest.spent;
       frontier = y.rest.frontier;
     }) x.0 x.1.0 x.1.1)
+
+pub returns-in_default-clause-alone : goal.returns-in_default-clause-alone
+returns-in_default-clause-alone c = λ lone.
+    let l = subst (λ (n : Next). LoneAt c.args.pool.now.layout n (view c.args.pass.now.seat)) c.requires.at lone in
+    absurd (false≢true (c.in_default.ensures.alone l.0.0))
+
+pub returns-clause-alone : goal.returns-clause-alone
+returns-clause-alone c = λ lone. let z = c.args.pool.now.layout in let g = c.args.going.now in let old = c.args.pass.now in
+    let mid = c.mark_end.new.pass in let x = c.requires.under in let f = c.args.found in let v = view old.seat in let u = view mid.seat in
+    let l = subst (λ (n : Next). LoneAt z n v) c.requires.at lone in
+    let k = at_mark z old.share g f v old.purse c.requires.at x.0 x.1.0 x.1.1 in record {
+      lost = refl;
+      on = marks_lone z f g.call c.in-Some.taken v u (sees_of z old.seat _ _ _ _ old.keeping old.run c.requires.fits.sizes)
+          (sees_of z mid.seat _ _ _ _ mid.keeping mid.run (c.mark_end.ensures.same.sizes ∙ c.requires.fits.sizes)) k.1.0 k.1.1.0 k.1.1.2
+          k.1.1.3 c.in-Some.ensures.marks l.0 l.1;
+      done = tt;
+    }

@@ -8,4 +8,5 @@ close-requires-in-Err-clause-each g c = let back = c.in-Err.ensures.back in
     subst (λ m. AtEach c.in-Err.refused.passes.items
     (λ k p. g.M.MapCalls.Belongs m p × g.M.MapCalls.Idle p × (g.M.MapCalls.pass_view p).caller ≡ k)) (sym back.0)
     (subst (λ items. AtEach items
-    (λ k p. g.M.MapCalls.Belongs c.args.whole p × g.M.MapCalls.Idle p × (g.M.MapCalls.pass_view p).caller ≡ k)) (sym back.1) c.requires.each)
+    (λ k p. g.M.MapCalls.Belongs c.args.whole p × g.M.MapCalls.Idle p × (g.M.MapCalls.pass_view p).caller ≡ k)) (sym back.1)
+    c.requires.each)

@@ -22,7 +22,14 @@ loop-bytes-preserved g c =
       consumed = rw items (Consumes-trans _ _ _ _ _ c.loop-bytes.invariant.consumed c.in-Ok.ensures.bytes.0);
       kept = c.in-Ok.ensures.cause.kept ∙ c.loop-bytes.invariant.kept;
       reads = next_read _ _ _ _ c.loop-bytes.invariant.reads enough c.in-Ok.ensures.made;
-      few = omega (arith, rw ok at c.extend_from_slice.ensures.len, c.in-Ok.ensures.bound.1, length-take-le c.in-Ok.count c.read.new.into c.in-Ok.ensures.bound.0, c.len.ensures);
+      few = omega (
+        arith,
+        rw ok at c.extend_from_slice.ensures.len,
+        c.in-Ok.ensures.bound.1,
+        length-take-le c.in-Ok.count c.read.new.into
+            c.in-Ok.ensures.bound.0,
+        c.len.ensures,
+      );
       room = search rules;
     }
 

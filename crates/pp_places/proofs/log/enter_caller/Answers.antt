@@ -1,4 +1,4 @@
-use Rattle.std.proofs.Common.{arith, ◌≡◌, ◌+◌, ◌<◌, ◌≤◌, ℕ, List, [], length, drop, sym, ap, ◌∙◌, subst}
+use Rattle.std.proofs.Common.{arith, ◌≡◌, List, [], drop, subst}
 use Rattle.std.proofs.lemmas.List.{drop_all}
 use Rattle.pp_model.specs.declared.Call.{Call}
 use Rattle.pp_places.specs.Places.{EntersOn}

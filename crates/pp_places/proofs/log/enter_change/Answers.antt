@@ -1,11 +1,10 @@
-use Rattle.std.proofs.Common.{arith, ◌≡◌, ◌≢◌, ◌+◌, ◌-◌, ◌<◌, ◌≤◌, ◌^◌, ℕ, Some, List, [], ◌∷◌, ◌++◌, length, length-append, set}
-use Rattle.std.proofs.Common.{max, ap, ◌∙◌, sym, refl}
+use Rattle.std.proofs.Common.{arith, ◌+◌, ◌-◌, ◌<◌, ◌≤◌, List, [], ◌∷◌, length, length-append}
+use Rattle.std.proofs.Common.{ap, ◌∙◌}
 use Rattle.std.specs.Prelude.{slice_get}
 use Rattle.std.proofs.lemmas.Option.{slice_get_within}
 use Rattle.pp_model.specs.declared.Change.{Change}
 use Rattle.pp_model.proofs.Histories.{slice_get-append_left}
 use Rattle.pp_schedule.proofs.Moved.{set_here, set_there, set_length}
-use Rattle.pp_places.specs.Places.{IsEntry}
 use Rattle.pp_places.proofs.log.enter_change.Goals as goal
 
 pub loop-filled-preserved : goal.loop-filled-preserved

@@ -1,9 +1,8 @@
-use Rattle.std.proofs.Common.{rules, arith, ◌≡◌, ◌+◌, ◌<◌, ◌≤◌, ℕ, List, [], ◌∷◌, ◌++◌, length, map, take, Some, refl, sym, ap, ◌∙◌, subst}
-use Rattle.std.specs.Prelude.{slice_get}
+use Rattle.std.proofs.Common.{arith, ◌≡◌, length, refl, sym, ap, ◌∙◌}
 use Rattle.std.proofs.lemmas.List.{length-map}
 use Rattle.std.proofs.lemmas.Option.{slice_get_read}
 use Rattle.pp_running.proofs.Lists.{at_mapped}
-use Rattle.pp_places.proofs.Callers.{caller_of, lists_more}
+use Rattle.pp_places.proofs.Callers.{caller_of}
 use Rattle.pp_places.proofs.Entries.{same_lists}
 use Rattle.pp_places.proofs.log.log_of.Goals as goal
 
@@ -14,8 +13,10 @@ enter_caller-requires-clause-answers c =
     let answers = c.args.answers.now in
     let marks = c.args.marks.now in
     let l = c.requires.lengths in
-    let many_answers : length answers ≡ length lists = sym (length-map answers (λ v. v.items)) ∙ (l.many_answers ∙ length-map lists (λ v. v.items)) in
-    let many_marks : length marks ≡ length lists = sym (length-map marks (λ v. v.items)) ∙ (l.many_marks ∙ length-map lists (λ v. v.items)) in
+    let many_answers : length answers ≡ length lists =
+    sym (length-map answers (λ v. v.items)) ∙ (l.many_answers ∙ length-map lists (λ v. v.items)) in
+    let many_marks : length marks ≡ length lists =
+    sym (length-map marks (λ v. v.items)) ∙ (l.many_marks ∙ length-map lists (λ v. v.items)) in
     let at_lists = at_mapped (λ v. v.items) lists k c.index-lists-caller.result
     (slice_get_read lists (length lists) k c.index-lists-caller.result refl c.loop-caller-test.true c.index-lists-caller.is) in
     let at_answers = at_mapped (λ v. v.items) answers k c.index-answers-caller.result
@@ -33,8 +34,10 @@ enter_caller-requires-clause-marks c =
     let answers = c.args.answers.now in
     let marks = c.args.marks.now in
     let l = c.requires.lengths in
-    let many_answers : length answers ≡ length lists = sym (length-map answers (λ v. v.items)) ∙ (l.many_answers ∙ length-map lists (λ v. v.items)) in
-    let many_marks : length marks ≡ length lists = sym (length-map marks (λ v. v.items)) ∙ (l.many_marks ∙ length-map lists (λ v. v.items)) in
+    let many_answers : length answers ≡ length lists =
+    sym (length-map answers (λ v. v.items)) ∙ (l.many_answers ∙ length-map lists (λ v. v.items)) in
+    let many_marks : length marks ≡ length lists =
+    sym (length-map marks (λ v. v.items)) ∙ (l.many_marks ∙ length-map lists (λ v. v.items)) in
     let at_lists = at_mapped (λ v. v.items) lists k c.index-lists-caller.result
     (slice_get_read lists (length lists) k c.index-lists-caller.result refl c.loop-caller-test.true c.index-lists-caller.is) in
     let at_answers = at_mapped (λ v. v.items) answers k c.index-answers-caller.result
@@ -52,8 +55,10 @@ loop-caller-preserved c = λ run placed.
     let answers = c.args.answers.now in
     let marks = c.args.marks.now in
     let l = c.requires.lengths in
-    let many_answers : length answers ≡ length lists = sym (length-map answers (λ v. v.items)) ∙ (l.many_answers ∙ length-map lists (λ v. v.items)) in
-    let many_marks : length marks ≡ length lists = sym (length-map marks (λ v. v.items)) ∙ (l.many_marks ∙ length-map lists (λ v. v.items)) in
+    let many_answers : length answers ≡ length lists =
+    sym (length-map answers (λ v. v.items)) ∙ (l.many_answers ∙ length-map lists (λ v. v.items)) in
+    let many_marks : length marks ≡ length lists =
+    sym (length-map marks (λ v. v.items)) ∙ (l.many_marks ∙ length-map lists (λ v. v.items)) in
     let at_lists = at_mapped (λ v. v.items) lists k c.index-lists-caller.result
     (slice_get_read lists (length lists) k c.index-lists-caller.result refl c.loop-caller-test.true c.index-lists-caller.is) in
     let at_answers = at_mapped (λ v. v.items) answers k c.index-answers-caller.result

@@ -1,4 +1,4 @@
-use Rattle.std.proofs.Common.{◌≡◌, map}
+use Rattle.std.proofs.Common.{map}
 use Rattle.pp_model.specs.Pass.{RunView}
 use Rattle.pp_places.specs.Places.{IsPlaced, HasEntered, earlier}
 use Rattle.pp_places.proofs.log.log_of.Given as goal

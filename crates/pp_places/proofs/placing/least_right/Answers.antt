@@ -1,9 +1,6 @@
-use Rattle.std.proofs.Common.{arith, ◌≡◌, ◌+◌, ◌<◌, ◌≤◌, ℕ, false, sym, ap, ◌∙◌, subst}
+use Rattle.std.proofs.Common.{arith, sym, ◌∙◌}
 use Rattle.std.proofs.lemmas.Bool.{true≢false}
-use Rattle.pp_model.specs.FiniteMap.{find}
-use Rattle.pp_model.specs.Calls.{reply_at}
-use Rattle.pp_model.specs.History.{after}
-use Rattle.pp_places.proofs.Listed.{Wrong, before_more, here_more, found_right, found_none}
+use Rattle.pp_places.proofs.Listed.{Wrong, before_more, here_more}
 use Rattle.pp_places.proofs.placing.least_right.Goals as goal
 use Rattle.pp_places.proofs.placing.least_right.Goals.{else-stale-via-then-stale+else-is_right, else-stale-via-else-stale}
 
@@ -16,7 +13,8 @@ loop-place-preserved c =
     ] in
     record {
       from_mark = let f = c.loop-place.invariant.from_mark in omega (arith, f);
-      before = before_more c.args.log.now c.args.call.now c.args.reply.now c.args.mark c.loop-place.place c.loop-place.invariant.before wrong;
+      before = before_more c.args.log.now c.args.call.now c.args.reply.now c.args.mark c.loop-place.place
+          c.loop-place.invariant.before wrong;
       here = here_more c.args.log.now c.args.call.now c.args.reply.now c.loop-place.place _ c.key_of.result c.key_of-key.result
           c.loop-place-test.true c.key_of.ensures c.key_of-key.ensures wrong;
     }

@@ -1,4 +1,4 @@
-use Rattle.std.proofs.Common.{arith, ◌≡◌, ◌+◌, ◌<◌, ◌≤◌, ℕ, List, [], ◌++◌, length, drop, refl, sym, ap, ◌∙◌, subst}
+use Rattle.std.proofs.Common.{arith, ◌≡◌, List, [], ◌++◌, drop, sym, ap, subst}
 use Rattle.std.proofs.lemmas.List.{drop_all}
 use Rattle.pp_model.specs.declared.Call.{Call}
 use Rattle.pp_places.specs.Places.{PlacesOn}
@@ -6,7 +6,8 @@ use Rattle.pp_places.proofs.Listed.{places_more, places_last}
 use Rattle.pp_places.proofs.placing.list_of.Goals as goal
 
 pub loop-at-init : goal.loop-at-init
-loop-at-init c = λ exact mine marked are. record { rest = mine; whole = ap (λ l. l ++ mine) (sym c.new-list.ensures.items); marked = marked }
+loop-at-init c = λ exact mine marked are.
+    record { rest = mine; whole = ap (λ l. l ++ mine) (sym c.new-list.ensures.items); marked = marked }
 
 pub loop-at-preserved : goal.loop-at-preserved
 loop-at-preserved c = λ exact mine marked are.

@@ -1,5 +1,4 @@
-use Rattle.std.proofs.Common.{rules, arith, ◌≡◌, ◌+◌, ◌<◌, ◌≤◌, ℕ, List, [], ◌∷◌, ◌++◌, length, map, take, Some, refl, sym, ap, ◌∙◌, subst}
-use Rattle.std.specs.Prelude.{slice_get}
+use Rattle.std.proofs.Common.{arith, ◌≡◌, List, length, map, refl, sym, ap, ◌∙◌, subst}
 use Rattle.std.proofs.lemmas.List.{length-map}
 use Rattle.std.proofs.lemmas.Option.{slice_get_read}
 use Rattle.pp_model.specs.declared.Change.{Change}
@@ -15,8 +14,10 @@ list_of-requires-clause-answers c =
     let answers = c.args.answers.now in
     let marks = c.args.marks.now in
     let l = c.requires.lengths in
-    let many_answers : length answers ≡ length lists = sym (length-map answers (λ v. v.items)) ∙ (l.many_answers ∙ length-map lists (λ v. v.items)) in
-    let many_marks : length marks ≡ length lists = sym (length-map marks (λ v. v.items)) ∙ (l.many_marks ∙ length-map lists (λ v. v.items)) in
+    let many_answers : length answers ≡ length lists =
+    sym (length-map answers (λ v. v.items)) ∙ (l.many_answers ∙ length-map lists (λ v. v.items)) in
+    let many_marks : length marks ≡ length lists =
+    sym (length-map marks (λ v. v.items)) ∙ (l.many_marks ∙ length-map lists (λ v. v.items)) in
     let at_lists = at_mapped (λ v. v.items) lists k c.index-lists-caller.result
     (slice_get_read lists (length lists) k c.index-lists-caller.result refl c.loop-caller-test.true c.index-lists-caller.is) in
     let at_answers = at_mapped (λ v. v.items) answers k c.index-answers-caller.result
@@ -34,8 +35,10 @@ list_of-requires-clause-marks c =
     let answers = c.args.answers.now in
     let marks = c.args.marks.now in
     let l = c.requires.lengths in
-    let many_answers : length answers ≡ length lists = sym (length-map answers (λ v. v.items)) ∙ (l.many_answers ∙ length-map lists (λ v. v.items)) in
-    let many_marks : length marks ≡ length lists = sym (length-map marks (λ v. v.items)) ∙ (l.many_marks ∙ length-map lists (λ v. v.items)) in
+    let many_answers : length answers ≡ length lists =
+    sym (length-map answers (λ v. v.items)) ∙ (l.many_answers ∙ length-map lists (λ v. v.items)) in
+    let many_marks : length marks ≡ length lists =
+    sym (length-map marks (λ v. v.items)) ∙ (l.many_marks ∙ length-map lists (λ v. v.items)) in
     let at_lists = at_mapped (λ v. v.items) lists k c.index-lists-caller.result
     (slice_get_read lists (length lists) k c.index-lists-caller.result refl c.loop-caller-test.true c.index-lists-caller.is) in
     let at_answers = at_mapped (λ v. v.items) answers k c.index-answers-caller.result
@@ -53,8 +56,10 @@ loop-caller-preserved c = λ run placed same.
     let answers = c.args.answers.now in
     let marks = c.args.marks.now in
     let l = c.requires.lengths in
-    let many_answers : length answers ≡ length lists = sym (length-map answers (λ v. v.items)) ∙ (l.many_answers ∙ length-map lists (λ v. v.items)) in
-    let many_marks : length marks ≡ length lists = sym (length-map marks (λ v. v.items)) ∙ (l.many_marks ∙ length-map lists (λ v. v.items)) in
+    let many_answers : length answers ≡ length lists =
+    sym (length-map answers (λ v. v.items)) ∙ (l.many_answers ∙ length-map lists (λ v. v.items)) in
+    let many_marks : length marks ≡ length lists =
+    sym (length-map marks (λ v. v.items)) ∙ (l.many_marks ∙ length-map lists (λ v. v.items)) in
     let at_lists = at_mapped (λ v. v.items) lists k c.index-lists-caller.result
     (slice_get_read lists (length lists) k c.index-lists-caller.result refl c.loop-caller-test.true c.index-lists-caller.is) in
     let at_answers = at_mapped (λ v. v.items) answers k c.index-answers-caller.result
@@ -68,5 +73,6 @@ loop-caller-preserved c = λ run placed same.
     at c.in_ok-list.ensures in
     ap (map (λ v. v.items)) c.in_ok-append.ensures
     ∙ lists_more c.loop-caller.out.items c.in_ok-list.list run.callers k one.caller one.at (c.loop-caller.invariant run placed same)
-    (listed one.exact one.caller.mine (subst (λ (l : List Change). MarkedAs l c.index-lists-caller.result.items c.index-answers-caller.result.items one.exact
-    one.caller.mine) same one.marked) one.marks_are)
+    (listed one.exact one.caller.mine (subst (λ (l : List Change).
+    MarkedAs l c.index-lists-caller.result.items c.index-answers-caller.result.items one.exact one.caller.mine)
+    same one.marked) one.marks_are)

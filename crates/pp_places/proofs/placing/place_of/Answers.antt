@@ -1,4 +1,4 @@
-use Rattle.std.proofs.Common.{arith, ◌≡◌, sym, ap, ◌∙◌, subst}
+use Rattle.std.proofs.Common.{sym, ◌∙◌, subst}
 use Rattle.pp_schedule.specs.Marks.{MarkPlaces}
 use Rattle.pp_places.proofs.Listed.{change_place}
 use Rattle.pp_places.proofs.placing.place_of.Goals as goal

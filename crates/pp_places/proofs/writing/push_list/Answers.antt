@@ -1,4 +1,4 @@
-use Rattle.std.proofs.Common.{arith, ◌≡◌, ◌++◌, ◌≤◌, length, take, ap, sym, ◌∙◌, append-nil}
+use Rattle.std.proofs.Common.{arith, ◌++◌, ap, sym, ◌∙◌, append-nil}
 use Rattle.std.specs.List.{flat_map}
 use Rattle.std.proofs.lemmas.List.{take_all}
 use Rattle.pp_certificate.specs.Printed.{said_line}

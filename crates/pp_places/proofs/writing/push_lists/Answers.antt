@@ -1,4 +1,4 @@
-use Rattle.std.proofs.Common.{arith, ◌≡◌, ◌++◌, ◌≤◌, List, [], length, map, take, get_or, ap, sym, refl, ◌∙◌, append-nil, subst}
+use Rattle.std.proofs.Common.{arith, ◌++◌, List, [], length, map, ap, sym, refl, ◌∙◌, append-nil, subst}
 use Rattle.std.specs.List.{flat_map}
 use Rattle.std.proofs.lemmas.List.{take_all, length-map}
 use Rattle.std.proofs.lemmas.Option.{slice_get_read, get_or_from_slice_get}

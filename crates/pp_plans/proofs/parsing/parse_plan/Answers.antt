@@ -1,5 +1,4 @@
-use Rattle.std.proofs.Common.{◌≡◌, arith, sym, refl, ap, ◌∙◌}
-use Rattle.pp_plans.proofs.Readings.{HasRead, past_nothing, past_given, bad_here, read_all, read_none}
+use Rattle.pp_plans.proofs.Readings.{past_given, read_all}
 use Rattle.pp_plans.proofs.parsing.parse_plan.Goals as goal
 
 pub loop-span-preserved : goal.loop-span-preserved

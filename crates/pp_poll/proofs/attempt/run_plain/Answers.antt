@@ -1,4 +1,4 @@
-use Rattle.std.proofs.Common.{arith, ◌<◌, ◌≤◌, length, map, refl, sym, ap, subst}
+use Rattle.std.proofs.Common.{arith, ◌<◌, ◌≤◌, length, refl, sym, ap}
 use Rattle.std.proofs.lemmas.List.{length-map}
 use Rattle.std.proofs.lemmas.Option.{slice_get_read}
 use Rattle.pp_model.specs.Plain.{plain_meaning, plain_sizes}
@@ -27,6 +27,9 @@ pub run_shown-shown-requires-clause-chosen : goal.run_shown-shown-requires-claus
 run_shown-shown-requires-clause-chosen g c = rw c.in-Ok.ensures.sizes (chosen_to_poll c.args.settings plain_meaning
     (plain_sizes c.args.settings.records) c.requires.within
     (sym (ap meaning_of c.requires.plain)) (plain_sized c.args.settings c.requires.within c.requires.plain))
+
+pub run_shown-shown-requires-clause-clean : goal.run_shown-shown-requires-clause-clean
+run_shown-shown-requires-clause-clean g c = λ k p at. tt
 
 pub run_shown-shown-requires-clause-shares : goal.run_shown-shown-requires-clause-shares
 run_shown-shown-requires-clause-shares g c = rw c.in-Ok-from_array.ensures.items

@@ -1,4 +1,4 @@
-use Rattle.std.proofs.Common.{map, ap, ◌∙◌}
+use Rattle.std.proofs.Common.{map, ◌∙◌}
 use Rattle.pp_buckets.specs.Tables.{table_sizes}
 use Rattle.pp_ends.specs.Ends.{map_sizes}
 use Rattle.pp_list.specs.Meant.{list_meaning}
@@ -18,6 +18,9 @@ run_shown-shown-requires-clause-passes g c = λ k p at. (
   c.in-Ok.ensures.rest k p at,
   record { fresh = c.in-Ok.ensures.fresh k p at; caller = c.in-Ok.ensures.callers k p at },
 )
+
+pub run_shown-shown-requires-clause-clean : goal.run_shown-shown-requires-clause-clean
+run_shown-shown-requires-clause-clean g c = λ k p at. c.in-Ok.ensures.clean k p at
 
 pub run_shown-shown-requires-clause-shares : goal.run_shown-shown-requires-clause-shares
 run_shown-shown-requires-clause-shares g c = λ k p at.

@@ -20,6 +20,9 @@ run_shown-shown-requires-clause-passes g c = λ k p at. (
   record { fresh = c.in-Ok.ensures.fresh k p at; caller = c.in-Ok.ensures.callers k p at },
 )
 
+pub run_shown-shown-requires-clause-clean : goal.run_shown-shown-requires-clause-clean
+run_shown-shown-requires-clause-clean g c = λ k p at. c.in-Ok.ensures.clean k p at
+
 pub run_shown-shown-requires-clause-shares : goal.run_shown-shown-requires-clause-shares
 run_shown-shown-requires-clause-shares g c = λ k p at.
     c.in-Ok.ensures.share k p at ∙ tree_shares c.args.settings c.requires.tree k

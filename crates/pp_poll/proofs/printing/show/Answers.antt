@@ -1,4 +1,3 @@
-use Rattle.std.proofs.Common.{sym}
 use Rattle.pp_poll.proofs.printing.show.Goals as goal
 
 pub returns-then-places-clause-shown : goal.returns-then-places-clause-shown

@@ -1,4 +1,4 @@
-use Rattle.std.proofs.Common.{◌≡◌, map, ap}
+use Rattle.std.proofs.Common.{map, ap}
 use Rattle.pp_replay.proofs.Finishes.{few_answers, finished}
 use Rattle.pp_poll.proofs.printing.show_certificate.Goals as goal
 

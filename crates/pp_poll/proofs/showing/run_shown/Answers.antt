@@ -1,13 +1,15 @@
-use Rattle.std.proofs.Common.{arith, ◌≡◌, ◌≤◌, ◌⊎◌, inl, inr, ⊎_elim, ◌∙◌, List, length, map, ap, sym, subst}
+use Rattle.std.proofs.Common.{arith, ◌≡◌, ◌≤◌, inl, inr, ⊎_elim, ◌∙◌, List, length, map, ap, sym, subst}
 use Rattle.std.proofs.lemmas.List.{length-map}
 use Rattle.pp_model.specs.Lists.{AtEach}
+use Rattle.pp_model.specs.MapCalls.{IsClean}
 use Rattle.pp_model.specs.Pass.{PassView}
+use Rattle.pp_trace.specs.Text.{count_all, is_lost}
 use Rattle.pp_planned.specs.Planned.{IsPlanned}
 use Rattle.pp_places.proofs.Runs.{placed_run}
 use Rattle.pp_replay.specs.Replay.{meaning_of, sizes_of, share_of}
 use Rattle.pp_running.proofs.Lists.{mapped_at}
-use Rattle.pp_replay.proofs.Unders.{short, under, under_opened}
-use Rattle.pp_poll.proofs.Finishes.{refused, not_run, cause_of, ranges_of}
+use Rattle.pp_replay.proofs.Unders.{short, none_lost, under, under_opened}
+use Rattle.pp_poll.proofs.Finishes.{cause_of, ranges_of}
 use Rattle.pp_poll.proofs.showing.run_shown.Goals as goal
 
 pub show-way-requires-clause-short : goal.show-way-requires-clause-short
@@ -57,7 +59,12 @@ returns g c = λ words before after said_by input.
     let shares : AtEach opened (λ k p. p.share ≡ share_of c.args.settings.map (sizes_of c.args.settings) k) =
     λ k v at. let from = mapped_at g.M.MapCalls.pass_view c.args.passes.items k v at in
     ap (λ p. p.share) (sym from.2) ∙ c.requires.shares k from.0 from.1 in
-    let same = under_opened c.args.settings opened lists answers _ run shares in
+    let unlost : c.args.settings.callers ≡ 1 → count_all is_lost answers ≡ 0 = none_lost _ _ c.args.settings opened lists answers _
+    c.in-Ok.ensures.ran c.requires.chosen.chosen.sizes_are c.requires.within
+    (λ k v at. let from = mapped_at g.M.MapCalls.pass_view c.args.passes.items k v at in
+    subst (λ (p : PassView). IsClean g.M.MapCalls.meaning (g.M.MapCalls.sizes c.args.chosen) p) from.2 (c.requires.clean k from.0 from.1))
+    in
+    let same = under_opened c.args.settings opened lists answers _ run shares unlost in
     let planned = subst (λ (vs : List PassView). IsPlanned (meaning_of c.args.settings.map) (sizes_of c.args.settings)
     c.args.settings.races c.args.input.plan.items vs lists closed) (sym same)
     (c.requires.chosen.plans _ _ _ _ c.in-Ok.ensures.planned) in
@@ -73,6 +80,7 @@ returns g c = λ words before after said_by input.
     let held = rw (c.deref.ensures.value, c.in-Ok.ensures.lists, c.deref-2.ensures.value, c.deref-3.ensures.value) at
     c.show-way.ensures.held in
     cause_of c.args.places words c.args.settings lists _ answers _ before after _ _ _ _ said_by input
-    (under c.args.settings opened lists answers _ run shares) planned c.show-way.result (shown closed placed c.in-Ok.ensures.contents)
+    (under c.args.settings opened lists answers _ run shares unlost) planned c.show-way.result
+    (shown closed placed c.in-Ok.ensures.contents)
     (λ not. ranges_of c.args.places _ _ _ opened lists answers closed run c.requires.calls.keys
     (omega (arith, c.requires.calls.each_caller, c.requires.within.callers_high)) (held closed placed not))

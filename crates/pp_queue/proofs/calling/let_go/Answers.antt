@@ -1,6 +1,5 @@
-use Rattle.std.proofs.Common.{◌≡◌, ◌≢◌, ◌≤◌, ◌<◌, ℕ, refl, arith}
+use Rattle.std.proofs.Common.{refl, arith}
 use Rattle.pp_rule.proofs.Made.{known_after}
-use Rattle.pp_queues.specs.Losses.{Tally}
 use Rattle.pp_queues.proofs.Counting.{ran_both}
 use Rattle.pp_queue.proofs.Running.{ran_idle}
 use Rattle.pp_base.specs.Passes.{known, view}

@@ -1,4 +1,4 @@
-use Rattle.std.proofs.Common.{◌≡◌, ◌≢◌, ◌≤◌, ◌+◌, ◌*◌, ℕ, false, refl, sym, ap, ◌∙◌, subst, arith}
+use Rattle.std.proofs.Common.{◌≡◌, ◌≢◌, ◌+◌, ◌*◌, ℕ, false, refl, sym, ap, ◌∙◌, subst, arith}
 use Rattle.pp_link.specs.Links.{target}
 use mathlib.Core.Option.{some}
 use lib.ListN.{get_elem?}
@@ -14,7 +14,7 @@ use Rattle.pp_queue.specs.Calling.{GoesOn, Struck}
 use Rattle.pp_queue.proofs.Going.{goes_made, goes_on, rest_cleared, rest_self}
 use Rattle.pp_queue.proofs.Turning.{goes_advanced}
 use Rattle.pp_queue.proofs.Putting.{goes_looked, may_advance, struck_between, same_record}
-use Rattle.std.proofs.Common.{◌<◌, true, false, eq-eqb, ne_eqb}
+use Rattle.std.proofs.Common.{true, false, eq-eqb, ne_eqb}
 use Rattle.pp_link.specs.Links.{invalid_bit}
 use Rattle.pp_link.specs.Places.{cell_place}
 use Rattle.pp_rule.specs.Lists.{remove_at}

@@ -1,8 +1,8 @@
-use Rattle.std.proofs.Common.{◌≡◌, ◌≢◌, ◌<◌, ◌≤◌, ◌+◌, ℕ, List, length, get_or, refl, sym, ap, ◌∙◌, subst, arith}
+use Rattle.std.proofs.Common.{◌≡◌, ◌<◌, ◌+◌, ℕ, List, length, get_or, refl, sym, ap, ◌∙◌, subst, arith}
 use Rattle.pp_link.specs.Links.{target}
 use Rattle.pp_rule.specs.declared.views.WalkSlot.{WalkSlot}
 use Rattle.pp_rule.specs.Lists.{IsIn}
-use Rattle.pp_rule.specs.Views.{slot, blank, guarding, value_of}
+use Rattle.pp_rule.specs.Views.{slot, blank, value_of}
 use Rattle.pp_rule.specs.Steps.{IsUnused, with_frontier, detaching}
 use Rattle.pp_rule.proofs.Made.{known_after}
 use Rattle.pp_rule.proofs.Slots.{guarding_here}
@@ -13,7 +13,7 @@ use Rattle.pp_unlink.proofs.Settling.{rest_detached, rest_missed}
 use Rattle.pp_queue.proofs.Turning.{rest_same_lists}
 use Rattle.pp_unlink.proofs.Exchanging.{unused_of}
 use Rattle.pp_queues.specs.Queues.{QueuePass, dummy_chain}
-use Rattle.pp_queues.specs.Turns.{stand, resting, with_own, taken}
+use Rattle.pp_queues.specs.Turns.{stand, resting, with_own}
 use Rattle.pp_queues.proofs.Lining.{leads_to}
 use Rattle.pp_queue.specs.Calling.{TookOff}
 use Rattle.pp_queue.proofs.Removing.{order_trans, order_made, flush_order, may_take, took_off}
@@ -21,7 +21,7 @@ use Rattle.pp_queues.specs.Losses.{Tally, losing, striking}
 use Rattle.pp_queues.proofs.Counting.{ran_both}
 use Rattle.pp_queue.proofs.Running.{ran_idle, ran_flush, ran_took, ran_missed}
 use Rattle.pp_queue.proofs.calling.remove_dummy.Goals as goal
-use Rattle.std.proofs.Common.{Bool, true, false, ap₂, ◌*◌}
+use Rattle.std.proofs.Common.{ap₂, ◌*◌}
 use Rattle.pp_link.specs.declared.layout.Sizes.{Sizes}
 use Rattle.pp_queues.specs.declared.own.QueueOwn.{QueueOwn}
 use Rattle.pp_queue.specs.Standing.{StaysUp}

@@ -1,12 +1,11 @@
-use Rattle.std.proofs.Common.{◌≡◌, ℕ, ◌+◌, true, false, eqb, refl, eq-eqb, ne_eqb}
+use Rattle.std.proofs.Common.{ℕ, ◌+◌, true, false, refl, eq-eqb, ne_eqb}
 use Rattle.pp_queues.specs.Losses.{Tally, losing}
 use Rattle.pp_queues.proofs.Counting.{ran_both}
 use Rattle.pp_queue.proofs.Running.{ran_idle, ran_came}
-use Rattle.pp_base.specs.Passes.{known, view}
+use Rattle.pp_base.specs.Passes.{view}
 use Rattle.pp_queue.proofs.Going.{rest_walk, rest_cleared, rest_self, goes_made, goes_on}
-use Rattle.pp_queue.specs.Calling.{SameRest}
 use Rattle.pp_queue.proofs.calling.stand_at.Goals as goal
-use Rattle.std.proofs.Common.{◌∙◌, sym, ap, get_or, ◌*◌, arith, List}
+use Rattle.std.proofs.Common.{◌∙◌, sym, ap, get_or, arith, List}
 use Rattle.pp_link.specs.Places.{head_place}
 use Rattle.pp_link.specs.declared.layout.Sizes.{Sizes}
 use Rattle.pp_queue.proofs.Standing.{seen_of, others_stay}

@@ -1,12 +1,11 @@
-use Rattle.std.proofs.Common.{◌≡◌, ◌≢◌, ℕ, get_or, refl, sym, ap, ◌∙◌, subst}
+use Rattle.std.proofs.Common.{◌≡◌, ℕ, get_or, refl, sym, ap, ◌∙◌, subst}
 use Rattle.pp_rule.specs.Views.{slot, blank, value_of}
-use Rattle.pp_base.specs.Passes.{known, view, IsAtRest}
-use Rattle.pp_queues.specs.Queues.{QueuePass, QueueView}
+use Rattle.pp_base.specs.Passes.{known, view}
 use Rattle.pp_queue.specs.Calling.{GoesOn, TookOff}
 use Rattle.pp_queue.proofs.Turning.{rest_goes, goes_saw, goes_tried, goes_advanced, went_on, went_free, took_between}
 use Rattle.pp_queue.proofs.Turning.{said_empty, rest_settled, goes_read}
 use Rattle.pp_queue.proofs.Going.{goes_made, goes_on, rest_cleared}
-use Rattle.std.proofs.Common.{◌+◌, ◌*◌, ◌<◌, Bool, true, false, cond, arith, eq-eqb, ne_eqb}
+use Rattle.std.proofs.Common.{◌+◌, Bool, true, false, cond, arith, eq-eqb, ne_eqb}
 use Rattle.pp_link.specs.Links.{invalid_bit}
 use Rattle.pp_queues.specs.Losses.{Tally, losing, striking, Ran}
 use Rattle.pp_queues.proofs.Counting.{ran_both}
@@ -444,7 +443,8 @@ returns-then-not-hold_next-clause-alone c = λ one up is. let z = c.args.pool.no
     let going : v1.known.own.going ≡ true = c.stand_at.ensures.on.rest.going ∙ c.requires.going in
     let seen1 = seen_of p1.seat p1.keeping.lone p1.run in let seen2 = seen_of p2.seat p2.keeping.lone p2.run in
     let seen3 = seen_of p3.seat p3.keeping.lone p3.run in
-    absurd (false≢true (sym c.if-not-hold_next.true ∙ c.hold_next.ensures.alone one (take_link z one c.requires.two v1 v2 v3 c.args.first c.see-last.result c.try_next-link.result few
+    absurd (false≢true (sym c.if-not-hold_next.true ∙ c.hold_next.ensures.alone one (take_link z one c.requires.two v1 v2 v3 c.args.first
+    c.see-last.result c.try_next-link.result few
     p1.keeping.pass.pass seen1 seen2 seen3 st going c.see-last.ensures.saw c.try_next-link.ensures.tried c.if-empty.false)))
 
 pub returns-then-last-first-clause-alone : goal.returns-then-last-first-clause-alone
@@ -457,7 +457,8 @@ returns-then-last-first-clause-alone c = λ one up is. let z = c.args.pool.now.l
     let seen1 = seen_of p1.seat p1.keeping.lone p1.run in let seen2 = seen_of p2.seat p2.keeping.lone p2.run in
     let seen3 = seen_of p3.seat p3.keeping.lone p3.run in
     absurd (take_past z one c.requires.two v1 v2 v3 c.args.first c.see-last.result c.try_next-link.result few
-    p1.keeping.pass.pass seen1 seen2 seen3 st going c.see-last.ensures.saw c.try_next-link.ensures.tried c.if-empty.false (c.stand_at.ensures.up up) c.requires.first c.if-last-first.true)
+    p1.keeping.pass.pass seen1 seen2 seen3 st going c.see-last.ensures.saw c.try_next-link.ensures.tried c.if-empty.false
+    (c.stand_at.ensures.up up) c.requires.first c.if-last-first.true)
 
 pub returns-then-not-remove_dummy-clause-alone : goal.returns-then-not-remove_dummy-clause-alone
 returns-then-not-remove_dummy-clause-alone c = λ one up is.

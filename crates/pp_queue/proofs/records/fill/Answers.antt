@@ -1,5 +1,5 @@
-use Rattle.std.proofs.Common.{◌≡◌, ℕ, ◌/◌, ◌%◌, ◌^◌, refl, sym, ap, ◌∙◌, subst}
-use Rattle.pp_base.specs.Passes.{known, view}
+use Rattle.std.proofs.Common.{ℕ, ◌/◌, ◌%◌, ◌^◌, refl, ap, subst}
+use Rattle.pp_base.specs.Passes.{view}
 use Rattle.pp_link.specs.Links.{word_of}
 use Rattle.pp_link.specs.declared.layout.Field.TheVariants as fields
 use Rattle.pp_base.specs.Made.{WroteOwned}

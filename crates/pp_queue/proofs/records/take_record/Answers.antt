@@ -1,9 +1,9 @@
-use Rattle.std.proofs.Common.{◌≡◌, ℕ, ◌+◌, ◌<◌, ◌≤◌, ⊎_elim, ◌⊎◌, List, [], length, length-append, refl, sym, ap, ◌∙◌, subst}
-use Rattle.std.proofs.Common.{arith, IfNone}
+use Rattle.std.proofs.Common.{◌≡◌, ℕ, ◌<◌, ◌≤◌, ⊎_elim, List, [], length, length-append, sym, ap, ◌∙◌, subst}
+use Rattle.std.proofs.Common.{arith}
 use Rattle.pp_base.specs.Passes.{known, view, IsAtRest}
 use Rattle.pp_link.specs.declared.layout.Sizes.{Sizes}
 use Rattle.pp_reclaim.specs.Sweeps.{Reclaims}
-use Rattle.pp_queue.specs.Answers.{RanOut, Idles}
+use Rattle.pp_queue.specs.Answers.{Idles}
 use Rattle.pp_queue.proofs.Idling.{idles_none, idles_both, idles_reclaimed, idles_collected}
 use Rattle.pp_queue.proofs.Reclaiming.{ran_out, if_none}
 use Rattle.pp_queue.proofs.records.take_record.Goals as goal

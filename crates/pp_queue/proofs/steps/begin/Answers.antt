@@ -1,6 +1,4 @@
-use Rattle.std.proofs.Common.{◌≡◌, ℕ, Bool, [], eqb, refl, sym, ap, ◌∙◌, subst}
-use Rattle.pp_link.specs.Places.{head_place, cell_place}
-use Rattle.pp_rule.specs.Views.{slot}
+use Rattle.std.proofs.Common.{◌≡◌, ℕ, [], refl, subst}
 use Rattle.pp_base.specs.Passes.{known, view}
 use Rattle.pp_base.proofs.Telling.{telling}
 use Rattle.pp_queues.specs.Queues.{Queues}

@@ -1,8 +1,8 @@
-use Rattle.std.proofs.Common.{◌≡◌, ℕ, [], eqb, refl, sym, ap, ◌∙◌, subst}
+use Rattle.std.proofs.Common.{◌≡◌, ℕ, [], eqb, sym, ap, subst}
 use prog.Atomic.{either}
 use Rattle.pp_link.specs.Links.{target}
 use Rattle.pp_base.specs.declared.purse.InHand.{InHand}
-use Rattle.pp_base.specs.Passes.{known, view, in_hand_of}
+use Rattle.pp_base.specs.Passes.{known, in_hand_of}
 use Rattle.pp_queues.specs.Queues.{dummy_chain}
 use Rattle.pp_queues.specs.Turns.{stand}
 use Rattle.pp_queues.proofs.Lining.{leads_to}

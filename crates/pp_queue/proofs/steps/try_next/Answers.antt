@@ -1,5 +1,5 @@
-use Rattle.std.proofs.Common.{◌≡◌, ◌<◌, true, ℕ, Bool, [], eqb, refl, sym, ap, ◌∙◌, subst}
-use Rattle.pp_link.specs.Places.{head_place, cell_place}
+use Rattle.std.proofs.Common.{◌≡◌, ◌<◌, true, ℕ, [], refl, sym, ap, ◌∙◌, subst}
+use Rattle.pp_link.specs.Places.{cell_place}
 use Rattle.pp_rule.specs.Views.{slot}
 use Rattle.pp_base.specs.Passes.{known, view}
 use Rattle.pp_base.proofs.Telling.{telling}

@@ -1,4 +1,4 @@
-use Rattle.std.proofs.Common.{◌≡◌, ℕ, ◌∙◌, refl, sym, ap, subst}
+use Rattle.std.proofs.Common.{◌≡◌, ℕ, subst}
 use Rattle.pp_base.specs.Passes.{known, view}
 use Rattle.pp_calls.proofs.Purses.{same_share}
 use Rattle.pp_queue.specs.Answers.{Tidies}

@@ -1,5 +1,5 @@
-use Rattle.std.proofs.Common.{◌≡◌, ℕ, ◌∙◌, refl, ap}
-use Rattle.pp_base.specs.Passes.{known, view}
+use Rattle.std.proofs.Common.{refl}
+use Rattle.pp_base.specs.Passes.{view}
 use Rattle.pp_queue.proofs.Idling.{idles_none, idles_reclaimed}
 use Rattle.pp_queue.proofs.tidying.reclaim_many.Goals as goal
 use Rattle.pp_queue.proofs.Finding.{up_reclaimed}

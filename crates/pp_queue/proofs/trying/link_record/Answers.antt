@@ -1,8 +1,7 @@
-use Rattle.std.proofs.Common.{◌≡◌, ◌≤◌, ◌<◌, ◌+◌, ℕ, length, Bool, true, false, refl, sym, ap, ◌∙◌, subst, arith}
+use Rattle.std.proofs.Common.{◌<◌, ◌+◌, ℕ, length, Bool, refl, sym, ap, ◌∙◌, subst, arith}
 use Rattle.pp_rule.specs.Views.{slot}
 use Rattle.pp_rule.proofs.Made.{known_after}
-use Rattle.pp_base.specs.Passes.{known, view}
-use Rattle.pp_pool.specs.Taken.{IsPrivate, IsPublished}
+use Rattle.pp_base.specs.Passes.{view}
 use Rattle.pp_queues.specs.Queues.{QueuePass}
 use Rattle.pp_queues.specs.Losses.{losing, Ran}
 use Rattle.pp_queues.proofs.Counting.{ran_none, ran_both}

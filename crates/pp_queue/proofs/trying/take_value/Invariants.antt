@@ -1,7 +1,7 @@
 use Rattle.std.proofs.Common.{◌≡◌, ◌<◌, ◌-◌, false}
 use Rattle.pp_link.specs.Places.{head_place}
 use Rattle.pp_queue.specs.Standing.{StaysUp, word_in}
-use Rattle.pp_base.specs.Passes.{known, view, Fits, IsSame, IsAtRest}
+use Rattle.pp_base.specs.Passes.{known, view, IsSame, IsAtRest}
 use Rattle.pp_unlink.specs.Invalidation.{SameFree}
 use Rattle.pp_queues.specs.Losses.{losing, Ran}
 use Rattle.pp_queue.specs.Calling.{WentOn, IsHeadWord, EmptyFrom}

@@ -1,5 +1,4 @@
-use Rattle.std.proofs.Common.{◌≡◌, map, length, ap, ◌∙◌, sym}
-use Rattle.std.proofs.lemmas.List.{length-map}
+use Rattle.std.proofs.Common.{◌≡◌}
 use Rattle.pp_queue_replay.specs.Replay.{Says}
 use Rattle.pp_queue_replay.proofs.Finishes.{unread, not_made}
 use Rattle.pp_queue_replay.proofs.Readings.{trace_calls}

@@ -1,4 +1,3 @@
-use Rattle.std.proofs.Common.{ap}
 use Rattle.pp_queue_replay.proofs.Growth.{with_call-set}
 use Rattle.pp_queue_replay.proofs.parsing.enter_call.Goals as goal
 

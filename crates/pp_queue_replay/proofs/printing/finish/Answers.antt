@@ -1,5 +1,5 @@
 use Rattle.std.proofs.Common.{map}
-use Rattle.pp_queue_replay.proofs.Finishes.{few_answers, finished}
+use Rattle.pp_queue_replay.proofs.Finishes.{few_answers}
 use Rattle.pp_queue_replay.proofs.printing.finish.Goals as goal
 
 pub of-counts-requires : goal.of-counts-requires

@@ -14,13 +14,15 @@ returns-in_err-put g c =
     let is = c.as_bytes.ensures.value ∙ c.as_str.ensures.value ∙ c.of_answer-line.ensures in
     let i = c.loop-answer.answer-index in
     rw p.1 (Puts-short _ _ _ p.0 (caller_whole c.args.caller (i + 1) answers)
-    (Puts-more _ _ _ (Err p.0) (caller_more c.args.caller c.loop-answer.number answers i _ c.loop-answer-test.true c.loop-answer.invariant.number)
+    (Puts-more _ _ _ (Err p.0)
+    (caller_more c.args.caller c.loop-answer.number answers i _ c.loop-answer-test.true c.loop-answer.invariant.number)
     c.loop-answer.invariant.printed (rw is at c.in_err-put.ensures)))
 
 pub loop-answer-preserved : goal.loop-answer-preserved
 loop-answer-preserved g c = let is = c.as_bytes.ensures.value ∙ c.as_str.ensures.value ∙ c.of_answer-line.ensures in record {
   number = omega (arith, c.loop-answer.invariant.number, c.saturating_add-number.ensures, c.requires.short);
   printed = Puts-more _ _ _ (Ok tt)
-      (caller_more c.args.caller c.loop-answer.number c.args.answers.now c.loop-answer.answer-index _ c.loop-answer-test.true c.loop-answer.invariant.number)
+      (caller_more c.args.caller c.loop-answer.number c.args.answers.now c.loop-answer.answer-index _ c.loop-answer-test.true
+      c.loop-answer.invariant.number)
       c.loop-answer.invariant.printed (rw is at c.in_ok-put.ensures);
 }

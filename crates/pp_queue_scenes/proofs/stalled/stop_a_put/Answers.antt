@@ -8,7 +8,8 @@ use Rattle.pp_queue.proofs.Whole.{head_word_of, record_on}
 use Rattle.pp_queue_scenes.proofs.stalled.stop_a_put.Goals as goal
 
 pub link_alone-requires-clause-record : goal.link_alone-requires-clause-record
-link_alone-requires-clause-record g c = let p2 = c.fill.new.pass in let p3 = c.load_end-first.new.pass in let e = c.load_end-first.ensures in
+link_alone-requires-clause-record g c = let p2 = c.fill.new.pass in let p3 = c.load_end-first.new.pass in
+    let e = c.load_end-first.ensures in
     let is = known_after _ _ _ _ _ _ _ (view p2.seat) (view p3.seat) e.ends.made in
     let n = c.number.result in let v = c.args.value in
     let has = subst (λ (m : ℕ). HasRecord (known p2.seat) p2.purse m v) (sym c.number.ensures) c.fill.ensures.has in

@@ -20,6 +20,9 @@ run_shown-shown-requires-clause-passes g c κs within = λ k p at. (
   record { fresh = c.in-Ok.ensures.fresh k p at; caller = c.in-Ok.ensures.callers k p at },
 )
 
+pub run_shown-shown-requires-clause-clean : goal.run_shown-shown-requires-clause-clean
+run_shown-shown-requires-clause-clean g c κs within = λ k p at. c.in-Ok.ensures.clean k p at
+
 pub run_shown-shown-requires-clause-shares : goal.run_shown-shown-requires-clause-shares
 run_shown-shown-requires-clause-shares g c κs within = λ k p at.
     c.in-Ok.ensures.share k p at ∙ table_shares c.args.settings c.args.buckets c.requires.table k

@@ -25,7 +25,8 @@ returns-in_err-print_caller g c =
     let i = c.loop-given.given-index in
     let line = c.deref.ensures.value ∙ ap (λ v. v.items) c.given-item.is in
     rw p.1 (Puts-short _ _ _ p.0 (callers_whole (i + 1) answers)
-    (Puts-more _ _ _ (Err p.0) (callers_more c.loop-given.caller answers i c.given-item.result c.loop-given-test.true c.loop-given.invariant.caller)
+    (Puts-more _ _ _ (Err p.0)
+    (callers_more c.loop-given.caller answers i c.given-item.result c.loop-given-test.true c.loop-given.invariant.caller)
     c.loop-given.invariant.printed (rw line at c.in_err-print_caller.ensures)))
 
 pub loop-given-preserved : goal.loop-given-preserved
@@ -40,6 +41,7 @@ loop-given-preserved g c =
         length-map c.args.answers.now (λ v. v.items),
       );
       printed = Puts-more _ _ _ (Ok tt)
-          (callers_more c.loop-given.caller c.args.answers.now c.loop-given.given-index c.given-item.result c.loop-given-test.true c.loop-given.invariant.caller)
+          (callers_more c.loop-given.caller c.args.answers.now c.loop-given.given-index c.given-item.result
+          c.loop-given-test.true c.loop-given.invariant.caller)
           c.loop-given.invariant.printed (rw line at c.in_ok-print_caller.ensures);
     }

@@ -13,13 +13,15 @@ returns-in_err-reply g c =
     let answers = c.args.answers.now in
     let i = c.loop-answer.answer-index in
     rw p.1 (Puts-short _ _ _ p.0 (caller_whole c.args.caller (i + 1) answers)
-    (Puts-more _ _ _ (Err p.0) (caller_more c.args.caller c.loop-answer.number answers i _ c.loop-answer-test.true c.loop-answer.invariant.number)
+    (Puts-more _ _ _ (Err p.0)
+    (caller_more c.args.caller c.loop-answer.number answers i _ c.loop-answer-test.true c.loop-answer.invariant.number)
     c.loop-answer.invariant.printed c.in_err-reply.ensures))
 
 pub loop-answer-preserved : goal.loop-answer-preserved
 loop-answer-preserved g c = record {
   number = omega (arith, c.loop-answer.invariant.number, c.saturating_add-number.ensures, c.requires.short);
   printed = Puts-more _ _ _ (Ok tt)
-      (caller_more c.args.caller c.loop-answer.number c.args.answers.now c.loop-answer.answer-index _ c.loop-answer-test.true c.loop-answer.invariant.number)
+      (caller_more c.args.caller c.loop-answer.number c.args.answers.now c.loop-answer.answer-index _ c.loop-answer-test.true
+      c.loop-answer.invariant.number)
       c.loop-answer.invariant.printed c.in_ok-reply.ensures;
 }

@@ -1,7 +1,9 @@
-use Rattle.std.proofs.Common.{arith, ◌∙◌, length, map, ap, sym}
+use Rattle.std.proofs.Common.{arith, ◌∙◌, length, map, ap, sym, subst}
 use Rattle.std.proofs.lemmas.List.{length-map}
+use Rattle.pp_model.specs.MapCalls.{IsClean}
+use Rattle.pp_model.specs.Pass.{PassView}
 use Rattle.pp_running.proofs.Lists.{mapped_at}
-use Rattle.pp_replay.proofs.Unders.{short, under}
+use Rattle.pp_replay.proofs.Unders.{short, none_lost, under}
 use Rattle.pp_replay.proofs.Finishes.{refused, cause_of}
 use Rattle.pp_replay.proofs.showing.run_shown.Goals as goal
 
@@ -37,5 +39,9 @@ returns g c = λ words before after said_by calls.
     (under c.args.settings (map g.M.MapCalls.pass_view c.args.passes.items) (map (λ v. v.items) c.args.lists.items)
     (map (λ v. v.items) c.in-Ok.ran.answers.items) _ run
     (λ k v at. let from = mapped_at g.M.MapCalls.pass_view c.args.passes.items k v at in
-    ap (λ p. p.share) (sym from.2) ∙ c.requires.shares k from.0 from.1))
+    ap (λ p. p.share) (sym from.2) ∙ c.requires.shares k from.0 from.1)
+    (none_lost _ _ c.args.settings (map g.M.MapCalls.pass_view c.args.passes.items) (map (λ v. v.items) c.args.lists.items)
+    (map (λ v. v.items) c.in-Ok.ran.answers.items) _ c.in-Ok.ensures.ran
+    c.requires.chosen.sizes_are c.requires.within (λ k v at. let from = mapped_at g.M.MapCalls.pass_view c.args.passes.items k v at in
+    subst (λ (p : PassView). IsClean g.M.MapCalls.meaning (g.M.MapCalls.sizes c.args.chosen) p) from.2 (c.requires.clean k from.0 from.1))))
     c.finish-way.result ends

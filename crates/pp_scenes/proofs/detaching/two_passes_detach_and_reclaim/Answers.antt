@@ -34,7 +34,8 @@ end-closed-requires-clause-each g c = let p = c.last_pass-first.result in let q 
     both_back _ c.open-pool.result.1.items _ c.last_pass-first.new.passes.items _ _ p q _ _
     c.open-pool.ensures.count c.last_pass-second.ensures c.last_pass-first.ensures c.append.ensures c.append-2.ensures
     (seat_after _ _ _ 0 p c.detach_and_reclaim.new.first.seat (opened_first _ _ _ _ _ p q c.open-pool.ensures.passes
-    c.open-pool.ensures.count c.last_pass-second.ensures c.last_pass-first.ensures) c.open-pool.ensures.sizes c.detach_and_reclaim.ensures.same)
+    c.open-pool.ensures.count c.last_pass-second.ensures c.last_pass-first.ensures) c.open-pool.ensures.sizes
+    c.detach_and_reclaim.ensures.same)
     (seat_after _ _ _ 1 q c.detach_and_reclaim.new.second.seat (opened_second _ _ _ _ _ p q c.open-pool.ensures.passes
     c.open-pool.ensures.count c.last_pass-second.ensures c.last_pass-first.ensures) c.open-pool.ensures.sizes
     c.detach_and_reclaim.ensures.same_too)

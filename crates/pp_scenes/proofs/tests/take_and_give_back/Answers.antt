@@ -9,7 +9,8 @@ write-requires-clause-private g c = let out = c.find_none_left.new.pass in let l
     let mid = c.take_number-five.new.pass in
     subst (λ (n : ℕ). IsPrivate (known out.seat) out.purse n) (sym c.take_number-five.ensures.number)
     (private_same last.seat out.seat last.purse out.purse 5 (ap (λ s. owned_numbers (known s)) c.find_none_left.ensures.seat)
-    c.find_none_left.ensures.purse (private_next mid.seat last.seat mid.purse last.purse 5 4 c.take_number-four.ensures.seat c.take_number-four.ensures.took
+    c.find_none_left.ensures.purse (private_next mid.seat last.seat mid.purse last.purse 5 4 c.take_number-four.ensures.seat
+    c.take_number-four.ensures.took
     c.take_number-five.ensures.private))
 
 pub give_back-requires : goal.give_back-requires

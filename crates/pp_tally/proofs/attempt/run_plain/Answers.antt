@@ -11,6 +11,9 @@ run_shown-shown-requires-clause-chosen g c κs within = rw c.in-Ok.ensures.sizes
     (chosen c.args.settings plain_meaning (plain_sizes c.args.settings.records)
     (sym (ap meaning_of c.requires.plain)) (plain_sized c.args.settings c.requires.within c.requires.plain))
 
+pub run_shown-shown-requires-clause-clean : goal.run_shown-shown-requires-clause-clean
+run_shown-shown-requires-clause-clean g c κs within = λ k p at. tt
+
 pub run_shown-shown-requires-clause-shares : goal.run_shown-shown-requires-clause-shares
 run_shown-shown-requires-clause-shares g c κs within = rw c.in-Ok-from_array.ensures.items
     (plain_shares c.args.settings c.requires.within c.requires.plain c.in-Ok.pass c.in-Ok.ensures.share)

@@ -1,5 +1,4 @@
 use Rattle.std.proofs.Common.{◌≡◌, ◌+◌, ◌-◌, get_or, refl, arith, Ok, Err}
-use Rattle.std.specs.List.{flat_map}
 use Rattle.std.proofs.lemmas.Result.{err_from_is_err_and}
 use Rattle.pp_trace.proofs.Buffered.{Puts-none}
 use Rattle.pp_replay.proofs.PrintedTexts.{Puts-more, Puts-short}

@@ -1,8 +1,10 @@
-use Rattle.std.proofs.Common.{length, map, refl, sym, ap, ◌∙◌}
+use Rattle.std.proofs.Common.{length, map, refl, sym, ap, ◌∙◌, subst}
+use Rattle.pp_model.specs.MapCalls.{IsClean}
+use Rattle.pp_model.specs.Pass.{PassView}
 use Rattle.pp_running.proofs.Lists.{mapped_at}
 use Rattle.pp_pieces.specs.Claims.{all_claims}
 use Rattle.pp_pieces.specs.Pieces.{pieces_of}
-use Rattle.pp_replay.proofs.Unders.{under}
+use Rattle.pp_replay.proofs.Unders.{none_lost, under}
 use Rattle.pp_tally.proofs.Finishes.{refused, cause_of, text_is}
 use Rattle.pp_tally.proofs.showing.run_shown.Goals as goal
 
@@ -29,5 +31,9 @@ returns g c = λ words before after said_by read.
     (under c.args.settings (map g.M.MapCalls.pass_view c.args.passes.items)
     (all_claims c.args.settings.callers (pieces_of (length c.args.bytes.now))) (map (λ v. v.items) c.in-Ok.claimed.answers.items) _ run
     (λ k v at. let from = mapped_at g.M.MapCalls.pass_view c.args.passes.items k v at in
-    ap (λ p. p.share) (sym from.2) ∙ c.requires.shares k from.0 from.1))
+    ap (λ p. p.share) (sym from.2) ∙ c.requires.shares k from.0 from.1)
+    (none_lost _ _ c.args.settings (map g.M.MapCalls.pass_view c.args.passes.items) (all_claims c.args.settings.callers
+    (pieces_of (length c.args.bytes.now))) (map (λ v. v.items) c.in-Ok.claimed.answers.items) _ c.in-Ok.ensures.ran
+    c.requires.chosen.sizes_are c.requires.within (λ k v at. let from = mapped_at g.M.MapCalls.pass_view c.args.passes.items k v at in
+    subst (λ (p : PassView). IsClean g.M.MapCalls.meaning (g.M.MapCalls.sizes c.args.chosen) p) from.2 (c.requires.clean k from.0 from.1))))
     c.in-Ok.ensures.owned c.in-Ok.ensures.counted c.finish-way.result ends

@@ -27,4 +27,5 @@ loop-span-preserved c =
 pub returns-clause-lists : goal.returns-clause-lists
 returns-clause-lists c =
     let end = c.loop-span.invariant in
-    trace-read c.args.bytes.now _ c.args.callers c.loop-span.from _ c.loop-span.trace c.in_default.ensures c.requires.short end.good end.read
+    trace-read c.args.bytes.now _ c.args.callers c.loop-span.from _ c.loop-span.trace c.in_default.ensures c.requires.short end.good
+    end.read

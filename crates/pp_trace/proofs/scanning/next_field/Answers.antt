@@ -7,5 +7,6 @@ returns-then-start-end c =
 
 pub returns : goal.returns
 returns c =
-    field_at c.args.bytes.now c.args.from c.args.end _ _ c.requires.order c.requires.within c.leading_blanks.ensures.place c.if-start-end.false
+    field_at c.args.bytes.now c.args.from c.args.end _ _ c.requires.order c.requires.within c.leading_blanks.ensures.place
+    c.if-start-end.false
     c.length_to_blank.ensures.place

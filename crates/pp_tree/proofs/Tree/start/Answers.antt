@@ -1,5 +1,8 @@
-use Rattle.std.proofs.Common.{sym, ◌∙◌}
+use Rattle.std.proofs.Common.{sym, ◌∙◌, subst}
+use Rattle.pp_link.specs.Places.{IsWithin}
 use Rattle.pp_ends.proofs.Opening.{fresh, starts_standing}
+use Rattle.pp_calls.specs.PoolViews.{pass_view}
+use Rattle.pp_tree.proofs.Starting.{starts_clean}
 use Rattle.pp_tree.proofs.Tree.start.Goals as goal
 
 pub returns-clause-belong : goal.returns-clause-belong
@@ -13,3 +16,7 @@ returns-clause-fresh c = λ k p at. fresh _ _ k p (c.in_ok-pool.ensures.passes k
 
 pub returns-clause-share : goal.returns-clause-share
 returns-clause-share c = λ k p at. (c.in_ok-pool.ensures.passes k p at).share_is
+
+pub returns-clause-clean : goal.returns-clause-clean
+returns-clause-clean c = λ k p at. starts_clean c.in_ok-pool.pool.layout
+    (subst IsWithin (sym c.in_ok-pool.ensures.sizes) c.requires) (pass_view p) (fresh _ _ k p (c.in_ok-pool.ensures.passes k p at))

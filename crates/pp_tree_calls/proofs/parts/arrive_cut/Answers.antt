@@ -10,6 +10,10 @@ use Rattle.pp_tree_calls.specs.Turned.{found_by, HasArrived}
 use Rattle.pp_tree_calls.proofs.Lasting.{part_after}
 use Rattle.pp_tree_calls.proofs.Arriving.{arrived_says, arrived_idle, part_as, found_other, found_flag, found_value, flag_of}
 use Rattle.pp_tree_calls.proofs.Arriving.{cut_absent, cut_other, cut_takes, ends_as}
+use Rattle.pp_model.specs.Calls.{key_of}
+use Rattle.pp_seek.proofs.LoneSpots.{sees_of}
+use Rattle.pp_tree_calls.proofs.Alone.{same_bare, idles_same, over_turn}
+use Rattle.pp_seek.proofs.LoneStays.{sought_stays}
 use Rattle.pp_tree_calls.proofs.parts.arrive_cut.Goals as goal
 
 pub returns-then-not-sought-clause-part : goal.returns-then-not-sought-clause-part
@@ -60,3 +64,31 @@ returns-clause-part c = let old = c.args.pass.now in let g = c.args.going.now in
     (arrived_idle z old.share g s (view old.seat) (view mid.seat) old.purse x.ensures.idles)
     (part_as z old.share mid.share g e.new.going s (view mid.seat) (view new.seat) old.purse mid.purse new.purse e.result
     (same_share 5 2 old.seat mid.seat _ _ _ _ _ _ _ _ old.keeping mid.keeping x.ensures.same) x.ensures.purse e.ensures.part)
+
+pub returns-then-not-sought-clause-alone : goal.returns-then-not-sought-clause-alone
+returns-then-not-sought-clause-alone c = λ l. let z = c.args.pool.now.layout in let g = c.args.going.now in let e = c.end in
+    over_turn z g e.new.going (view e.new.pass.seat) _ e.result (ap (λ x. x.lost) e.ensures.over) e.ensures.done
+    (e.ensures.alone l.lone.one l.lone.bare)
+
+pub returns-then-flag-clause-alone : goal.returns-then-flag-clause-alone
+returns-then-flag-clause-alone c = λ l. let z = c.args.pool.now.layout in let g = c.args.going.now in let e = c.end-then-flag in
+    over_turn z g e.new.going (view e.new.pass.seat) _ e.result (ap (λ x. x.lost) e.ensures.over) e.ensures.done
+    (e.ensures.alone l.lone.one l.lone.bare)
+
+pub returns-then-value-wanted-clause-alone : goal.returns-then-value-wanted-clause-alone
+returns-then-value-wanted-clause-alone c = λ l. let z = c.args.pool.now.layout in let g = c.args.going.now in let old = c.args.pass.now in
+    let x = c.stored-value in let mid = x.new.pass in let e = c.end-then-value-wanted in
+    let sv = sees_of z old.seat _ _ _ _ old.keeping old.run c.requires.fits.sizes in
+    let su = sees_of z mid.seat _ _ _ _ mid.keeping mid.run (x.ensures.same.sizes ∙ c.requires.fits.sizes) in
+    let same = idles_same z (view old.seat) (view mid.seat) sv su l.lone.one x.ensures.idles in
+    over_turn z g e.new.going (view e.new.pass.seat) _ e.result (ap (λ x. x.lost) e.ensures.over) e.ensures.done
+    (e.ensures.alone l.lone.one (same_bare z (view old.seat) (view mid.seat) sv su l.lone.one same l.lone.bare))
+
+pub returns-clause-alone : goal.returns-clause-alone
+returns-clause-alone c = λ l. let z = c.args.pool.now.layout in let old = c.args.pass.now in
+    let x = c.stored-value in let mid = x.new.pass in
+    let sv = sees_of z old.seat _ _ _ _ old.keeping old.run c.requires.fits.sizes in
+    let su = sees_of z mid.seat _ _ _ _ mid.keeping mid.run (x.ensures.same.sizes ∙ c.requires.fits.sizes) in
+    let same = idles_same z (view old.seat) (view mid.seat) sv su l.lone.one x.ensures.idles in
+    c.open_removal.ensures.alone (sought_stays z (view old.seat) (view mid.seat) sv su same (λ j. ap (λ q. slot q j) x.ensures.idles.known)
+    (key_of c.args.going.now.call) c.args.sought (ap (λ q. q.own) x.ensures.idles.known) c.requires.ready.sought l)

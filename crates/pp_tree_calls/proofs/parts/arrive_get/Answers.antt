@@ -9,6 +9,8 @@ use Rattle.pp_tree_calls.specs.Turned.{found_by, HasArrived}
 use Rattle.pp_tree_calls.proofs.Lasting.{part_after}
 use Rattle.pp_tree_calls.proofs.Arriving.{arrived_says, arrived_idle, found_other, found_flag, found_value, flag_of, get_absent}
 use Rattle.pp_tree_calls.proofs.Arriving.{get_value, ends_as}
+use Rattle.pp_seek.proofs.LoneSpots.{sees_of}
+use Rattle.pp_tree_calls.proofs.Alone.{same_bare, idles_same, over_turn}
 use Rattle.pp_tree_calls.proofs.parts.arrive_get.Goals as goal
 
 pub returns-then-not-sought-clause-part : goal.returns-then-not-sought-clause-part
@@ -41,3 +43,22 @@ returns-clause-part c = let old = c.args.pass.now in let g = c.args.going.now in
     (ends_as z old.share mid.share g.races g.call g.records (Said (Value x.result)) (view mid.seat)
     (view new.seat) old.purse mid.purse new.purse
     (same_share 5 2 old.seat mid.seat _ _ _ _ _ _ _ _ old.keeping mid.keeping x.ensures.same) x.ensures.purse e.ensures.ended))
+
+pub returns-then-not-sought-clause-alone : goal.returns-then-not-sought-clause-alone
+returns-then-not-sought-clause-alone c = λ l. let z = c.args.pool.now.layout in let g = c.args.going.now in let e = c.end in
+    over_turn z g e.new.going (view e.new.pass.seat) _ e.result (ap (λ x. x.lost) e.ensures.over) e.ensures.done
+    (e.ensures.alone l.lone.one l.lone.bare)
+
+pub returns-then-flag-clause-alone : goal.returns-then-flag-clause-alone
+returns-then-flag-clause-alone c = λ l. let z = c.args.pool.now.layout in let g = c.args.going.now in let e = c.end-then-flag in
+    over_turn z g e.new.going (view e.new.pass.seat) _ e.result (ap (λ x. x.lost) e.ensures.over) e.ensures.done
+    (e.ensures.alone l.lone.one l.lone.bare)
+
+pub returns-clause-alone : goal.returns-clause-alone
+returns-clause-alone c = λ l. let z = c.args.pool.now.layout in let g = c.args.going.now in let old = c.args.pass.now in
+    let x = c.stored-value in let mid = x.new.pass in let e = c.end-2 in
+    let sv = sees_of z old.seat _ _ _ _ old.keeping old.run c.requires.fits.sizes in
+    let su = sees_of z mid.seat _ _ _ _ mid.keeping mid.run (x.ensures.same.sizes ∙ c.requires.fits.sizes) in
+    let same = idles_same z (view old.seat) (view mid.seat) sv su l.lone.one x.ensures.idles in
+    over_turn z g e.new.going (view e.new.pass.seat) _ e.result (ap (λ x. x.lost) e.ensures.over) e.ensures.done
+    (e.ensures.alone l.lone.one (same_bare z (view old.seat) (view mid.seat) sv su l.lone.one same l.lone.bare))

@@ -10,6 +10,10 @@ use Rattle.pp_tree_calls.specs.Turned.{found_by, HasArrived}
 use Rattle.pp_tree_calls.proofs.Lasting.{part_after}
 use Rattle.pp_tree_calls.proofs.Arriving.{arrived_says, arrived_idle, opens_beside, opens_again, opens_publish, found_other}
 use Rattle.pp_tree_calls.proofs.Arriving.{found_flag, found_value, flag_of, tag_of, insert_held, insert_added, ends_as}
+use Rattle.std.proofs.Common.{arith}
+use Rattle.pp_model.specs.Calls.{key_of}
+use Rattle.pp_seek.proofs.LoneSpots.{sees_of}
+use Rattle.pp_tree_calls.proofs.Alone.{same_bare, idles_same, over_turn, sought_plain}
 use Rattle.pp_tree_calls.proofs.parts.arrive_insert.Goals as goal
 
 pub returns-then-flag-clause-part : goal.returns-then-flag-clause-part
@@ -48,3 +52,27 @@ returns-clause-part c = let old = c.args.pass.now in let g = c.args.going.now in
     opens_publish c.args.pool.now.layout old.share g s (view old.seat) old.purse r.ready i.0 i.1 i.2 c.if-sought.false
     (flag_of s.edge ∙ ap bit (sym c.flag.ensures ∙ c.if-flag.false)) (tag_of s.edge ∙ ap bit
     (sym c.tag.ensures ∙ c.if-tag.false)) r.unstruck
+
+pub returns-then-flag-clause-alone : goal.returns-then-flag-clause-alone
+returns-then-flag-clause-alone c = λ l. let z = c.args.pool.now.layout in let old = c.args.pass.now in let s = c.args.sought in
+    let none = (sought_plain z (key_of c.args.going.now.call) s (view old.seat)
+    (sees_of z old.seat _ _ _ _ old.keeping old.run c.requires.fits.sizes) c.requires.ready.sought l).0 in
+    let set = flag_of s.edge ∙ ap bit (sym c.flag.ensures ∙ c.if-flag.true) in absurd (omega arith)
+
+pub returns-then-sought-clause-alone : goal.returns-then-sought-clause-alone
+returns-then-sought-clause-alone c = λ l. let z = c.args.pool.now.layout in let g = c.args.going.now in let old = c.args.pass.now in
+    let x = c.stored-value in let mid = x.new.pass in let e = c.end in
+    let sv = sees_of z old.seat _ _ _ _ old.keeping old.run c.requires.fits.sizes in
+    let su = sees_of z mid.seat _ _ _ _ mid.keeping mid.run (x.ensures.same.sizes ∙ c.requires.fits.sizes) in
+    let same = idles_same z (view old.seat) (view mid.seat) sv su l.lone.one x.ensures.idles in
+    over_turn z g e.new.going (view e.new.pass.seat) _ e.result (ap (λ x. x.lost) e.ensures.over) e.ensures.done
+    (e.ensures.alone l.lone.one (same_bare z (view old.seat) (view mid.seat) sv su l.lone.one same l.lone.bare))
+
+pub returns-then-tag-clause-alone : goal.returns-then-tag-clause-alone
+returns-then-tag-clause-alone c = λ l. let z = c.args.pool.now.layout in let old = c.args.pass.now in let s = c.args.sought in
+    let none = (sought_plain z (key_of c.args.going.now.call) s (view old.seat)
+    (sees_of z old.seat _ _ _ _ old.keeping old.run c.requires.fits.sizes) c.requires.ready.sought l).1 in
+    let set = tag_of s.edge ∙ ap bit (sym c.tag.ensures ∙ c.if-tag.true) in absurd (omega arith)
+
+pub returns-clause-alone : goal.returns-clause-alone
+returns-clause-alone c = λ l. record { lost = refl; on = l; done = tt }

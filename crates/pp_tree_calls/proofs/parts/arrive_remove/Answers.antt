@@ -5,6 +5,7 @@ use Rattle.pp_rule.specs.Views.{slot, value_of}
 use Rattle.pp_base.specs.Passes.{known, view}
 use Rattle.pp_tree_calls.specs.Turned.{found_by}
 use Rattle.pp_tree_calls.proofs.Arriving.{arrived_says, found_other, found_flag, flag_of, remove_absent, remove_takes}
+use Rattle.pp_tree_calls.proofs.Alone.{over_turn}
 use Rattle.pp_tree_calls.proofs.parts.arrive_remove.Goals as goal
 
 pub returns-then-not-sought-clause-part : goal.returns-then-not-sought-clause-part
@@ -25,3 +26,13 @@ returns-then-flag-clause-part c = let old = c.args.pass.now in let g = c.args.go
 pub open_removal-requires-clause-takes : goal.open_removal-requires-clause-takes
 open_removal-requires-clause-takes c = remove_takes c.args.going.now.call c.requires.removes.0
     (value_of (slot (known c.args.pass.now.seat) c.args.sought.word).value) c.requires.removes.1
+
+pub returns-then-not-sought-clause-alone : goal.returns-then-not-sought-clause-alone
+returns-then-not-sought-clause-alone c = λ l. let z = c.args.pool.now.layout in let g = c.args.going.now in let e = c.end in
+    over_turn z g e.new.going (view e.new.pass.seat) _ e.result (ap (λ x. x.lost) e.ensures.over) e.ensures.done
+    (e.ensures.alone l.lone.one l.lone.bare)
+
+pub returns-then-flag-clause-alone : goal.returns-then-flag-clause-alone
+returns-then-flag-clause-alone c = λ l. let z = c.args.pool.now.layout in let g = c.args.going.now in let e = c.end-then-flag in
+    over_turn z g e.new.going (view e.new.pass.seat) _ e.result (ap (λ x. x.lost) e.ensures.over) e.ensures.done
+    (e.ensures.alone l.lone.one l.lone.bare)

@@ -8,7 +8,7 @@ returns-then-going-2-clause-part c = let g = c.args.going.now in let old = c.arg
     let over = c.end.ensures.over in
     lost_took c.args.pool.now.layout old.share g c.args.seek (view old.seat) old.purse c.end.new.going (view new.seat) new.purse
     c.end.result record { call = ap (λ x. x.call) over; races = ap (λ x. x.races) over; struck = ap (λ x. x.struck) over }
-    (ap (λ x. x.next) over)
+    (ap (λ x. x.lost) over) (ap (λ x. x.next) over)
     c.if-going-2.true c.if-going.true c.end.ensures.done c.end.ensures.ended
 
 pub returns-then-going-clause-part : goal.returns-then-going-clause-part
@@ -20,7 +20,7 @@ returns-then-going-clause-part c = let g = c.args.going.now in let old = c.args.
       races = ap (λ x. x.races) over;
       struck = ap
           (λ x. x.struck) over;
-    } (ap (λ x. x.next) over)
+    } (ap (λ x. x.lost) over) (ap (λ x. x.next) over)
     c.if-going-2.false c.if-going.true c.end-then-going.ensures.done c.end-then-going.ensures.ended
 
 pub returns-clause-part : goal.returns-clause-part

@@ -10,6 +10,8 @@ use Rattle.pp_tree_calls.specs.Turned.{HasMissed}
 use Rattle.pp_tree_calls.proofs.Lasting.{missed_shared}
 use Rattle.pp_tree_calls.proofs.Treading.{some_named, turned_same}
 use Rattle.pp_tree_calls.proofs.Exchanged.{flag_missed, flag_turned}
+use Rattle.std.proofs.Common.{refl}
+use Rattle.pp_tree_calls.specs.Lone.{LoneNext}
 use Rattle.pp_tree_calls.proofs.turns.flag_on.Goals as goal
 
 pub returns-in-Some-clause-turned : goal.returns-in-Some-clause-turned
@@ -34,3 +36,13 @@ returns-in-None-clause-turned c = let z = c.args.pool.now.layout in let old = c.
     c.in-None.ensures.flagged mid.purse c.flag_turn.ensures.purse)
     (missed_shared z old.share mid.share g l.new.going (view mid.seat) (view new.seat) mid.purse new.purse l.result
     (same_share 5 2 old.seat mid.seat _ _ _ _ _ _ _ _ old.keeping mid.keeping c.flag_turn.ensures.same) l.ensures.part)
+
+pub returns-in-Some-clause-alone : goal.returns-in-Some-clause-alone
+returns-in-Some-clause-alone c = λ lone. let z = c.args.pool.now.layout in let g = c.args.going.now in
+    let l = subst (λ (n : Next). LoneNext z g.struck n (view c.args.pass.now.seat)) c.requires.at lone in
+    record { lost = refl; on = (refl, (c.in-Some.ensures.alone l).1 c.other.result c.other.ensures); done = tt }
+
+pub returns-in-None-clause-alone : goal.returns-in-None-clause-alone
+returns-in-None-clause-alone c = λ lone. let z = c.args.pool.now.layout in let g = c.args.going.now in
+    let l = subst (λ (n : Next). LoneNext z g.struck n (view c.args.pass.now.seat)) c.requires.at lone in
+    absurd ((c.in-None.ensures.alone l).0 refl)

@@ -9,6 +9,13 @@ use Rattle.pp_tree_calls.specs.Turned.{TreeTurned}
 use Rattle.pp_tree_calls.proofs.Losing.{four_chains}
 use Rattle.pp_tree_calls.proofs.Publishing.{with_records}
 use Rattle.pp_tree_calls.proofs.Taken.{has_records, put_turned, full_owned, full_turned}
+use Rattle.std.proofs.Common.{ap}
+use Rattle.pp_seek.proofs.LoneSpots.{sees_of}
+use Rattle.pp_tree_calls.specs.declared.going.Next.{Next}
+use Rattle.pp_tree_calls.specs.Lone.{LoneNext}
+use Rattle.pp_tree_calls.proofs.Publishing.{may_publish}
+use Rattle.pp_tree_calls.proofs.Alone.{same_bare, purse_same, puts_bare, over_turn, slots_same}
+use Rattle.pp_seek.proofs.LoneStays.{sought_stays}
 use Rattle.pp_tree_calls.proofs.turns.publish_on.Goals as goal
 
 pub put_in-requires-clause-under : goal.put_in-requires-clause-under
@@ -53,3 +60,26 @@ returns-in-None-clause-turned c = let z = c.args.pool.now.layout in let g = c.ar
     (four_chains (known new.seat) new.purse new.keeping.chains new.keeping.few) c.full.new.going
     (subst (λ (h : TwoRecords). c.full.new.going ≡ record g { next = Over; records = h }) c.take-had.ensures.after c.full.ensures.over)
     x.0 x.1.0 x.1.1)
+
+pub returns-in-Some-clause-alone : goal.returns-in-Some-clause-alone
+returns-in-Some-clause-alone c = λ lone. let z = c.args.pool.now.layout in let g = c.args.going.now in let old = c.args.pass.now in
+    let mid = c.take_records.new.pass in let x = c.requires.under in let v = view old.seat in let u = view mid.seat in
+    let l = subst (λ (n : Next). LoneNext z g.struck n v) c.requires.at lone in let takes = c.in-Some.ensures.some in
+    let sv = sees_of z old.seat _ _ _ _ old.keeping old.run c.requires.fits.sizes in
+    let su = sees_of z mid.seat _ _ _ _ mid.keeping mid.run (c.take_records.ensures.same.sizes ∙ c.requires.fits.sizes) in
+    let m = may_publish z g c.args.sought x.0 v c.requires.at x.1.1.stands in
+    let t = c.put_in.ensures.alone (sought_stays z v u sv su (purse_same z v u sv su l.lone.one takes.names takes.steps)
+    (slots_same v u takes.steps.walk) m.key c.args.sought takes.steps.own m.next.sought l) in
+    record { lost = t.lost; on = t.on; done = t.done }
+
+pub returns-in-None-clause-alone : goal.returns-in-None-clause-alone
+returns-in-None-clause-alone c = λ lone. let z = c.args.pool.now.layout in let g = c.args.going.now in let old = c.args.pass.now in
+    let mid = c.take_records.new.pass in let new = c.full.new.pass in let v = view old.seat in let u = view mid.seat in
+    let l = subst (λ (n : Next). LoneNext z g.struck n v) c.requires.at lone in let takes = c.in-None.ensures.none in
+    let sv = sees_of z old.seat _ _ _ _ old.keeping old.run c.requires.fits.sizes in
+    let su = sees_of z mid.seat _ _ _ _ mid.keeping mid.run (c.take_records.ensures.same.sizes ∙ c.requires.fits.sizes) in
+    let sw = sees_of z new.seat _ _ _ _ new.keeping new.run
+    (c.full.ensures.same.sizes ∙ (c.take_records.ensures.same.sizes ∙ c.requires.fits.sizes)) in
+    over_turn z g c.full.new.going (view new.seat) _ c.full.result (ap (λ y. y.lost) c.full.ensures.over) c.full.ensures.done
+    (puts_bare z u (view new.seat) su sw l.lone.one mid.share mid.purse new.purse c.full.ensures.puts
+    (same_bare z v u sv su l.lone.one (purse_same z v u sv su l.lone.one takes.names takes.steps) l.lone.bare))

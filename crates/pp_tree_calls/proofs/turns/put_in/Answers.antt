@@ -11,6 +11,7 @@ use Rattle.pp_tree_calls.proofs.Arriving.{ends_as}
 use Rattle.pp_tree_calls.proofs.Exchanged.{end_part}
 use Rattle.pp_tree_calls.proofs.Publishing.{may_publish, insert_changes, same_fresh, call_by_pair, next_by_pair, spent_out}
 use Rattle.pp_tree_calls.proofs.Publishing.{with_records, publish_goes, publish_out, missed_turned, added_turned}
+use Rattle.pp_tree_calls.proofs.Alone.{over_turn}
 use Rattle.pp_tree_calls.proofs.turns.put_in.Goals as goal
 
 pub publish_turn-requires-clause-leaf : goal.publish_turn-requires-clause-leaf
@@ -88,3 +89,11 @@ returns-in-Changed-clause-turned c = let z = c.args.pool.now.layout in let old =
     mid.purse (c.publish_turn.ensures.kept (λ done. absurd cc)) l.new.going (view new.seat) new.purse l.result
     (missed_shared z old.share mid.share (with_records g f') l.new.going (view mid.seat) (view new.seat) mid.purse new.purse l.result
     (same_share 5 2 old.seat mid.seat _ _ _ _ _ _ _ _ old.keeping mid.keeping c.publish_turn.ensures.same) l.ensures.part) m.off
+
+pub returns-in-Done-clause-alone : goal.returns-in-Done-clause-alone
+returns-in-Done-clause-alone c = λ l. let z = c.args.pool.now.layout in let g = c.args.going.now in let e = c.end in
+    over_turn z g e.new.going (view e.new.pass.seat) _ e.result (ap (λ x. x.lost) e.ensures.over) e.ensures.done
+    (e.ensures.alone l.lone.one (c.publish_turn.ensures.alone l).1)
+
+pub returns-in-Changed-clause-alone : goal.returns-in-Changed-clause-alone
+returns-in-Changed-clause-alone c = λ l. absurd (let e = c.in-Changed.is in let d = (c.publish_turn.ensures.alone l).0 in cc)

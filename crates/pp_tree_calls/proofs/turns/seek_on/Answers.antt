@@ -11,6 +11,7 @@ use Rattle.pp_tree_turns.proofs.Seeks.{trail_names}
 use Rattle.pp_tree_calls.proofs.Treading.{turned_same, rest_on}
 use Rattle.pp_tree_calls.proofs.Seeking.{seek_turned, seek_lost, lost_turn}
 use Rattle.pp_tree_calls.proofs.Landing.{at_record, has_ended, has_arrived, landed_stepped, landed_stands, landed_some}
+use Rattle.pp_tree_calls.specs.Lone.{LoneNext}
 use Rattle.pp_tree_calls.proofs.turns.seek_on.Goals as goal
 
 pub lose-requires-clause-rest : goal.lose-requires-clause-rest
@@ -75,3 +76,18 @@ returns-in-At-clause-turned c = let z = c.args.pool.now.layout in let old = c.ar
     (part_as z old.share mid.share g c.arrive.new.going c.in-At.sought (view mid.seat)
     (view new.seat) mid.purse mid.purse new.purse c.arrive.result
     (same_share 5 2 old.seat mid.seat _ _ _ _ _ _ _ _ old.keeping mid.keeping c.turn.ensures.same) refl c.arrive.ensures.part)
+
+pub returns-in-On-clause-alone : goal.returns-in-On-clause-alone
+returns-in-On-clause-alone c = λ lone. let z = c.args.pool.now.layout in let g = c.args.going.now in
+    let l = subst (λ (n : Next). LoneNext z g.struck n (view c.args.pass.now.seat)) c.requires.at lone in
+    record { lost = refl; on = (l.0, c.in-On.ensures.alone l.1); done = tt }
+
+pub returns-in-Lost-clause-alone : goal.returns-in-Lost-clause-alone
+returns-in-Lost-clause-alone c = λ lone. let z = c.args.pool.now.layout in let g = c.args.going.now in
+    let l = subst (λ (n : Next). LoneNext z g.struck n (view c.args.pass.now.seat)) c.requires.at lone in
+    absurd (c.in-Lost.ensures.alone l.1)
+
+pub returns-in-At-clause-alone : goal.returns-in-At-clause-alone
+returns-in-At-clause-alone c = λ lone. let z = c.args.pool.now.layout in let g = c.args.going.now in
+    let l = subst (λ (n : Next). LoneNext z g.struck n (view c.args.pass.now.seat)) c.requires.at lone in
+    c.arrive.ensures.alone l.0 (c.in-At.ensures.alone l.1)

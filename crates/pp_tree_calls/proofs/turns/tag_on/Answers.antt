@@ -10,6 +10,10 @@ use Rattle.pp_tree_calls.proofs.Lasting.{missed_shared}
 use Rattle.pp_tree_calls.proofs.Resting.{rest_kept}
 use Rattle.pp_tree_calls.proofs.Treading.{some_named, turned_same}
 use Rattle.pp_tree_calls.proofs.Exchanged.{tag_missed, tag_goes, comes_to}
+use Rattle.std.proofs.Common.{◌≡◌, Some}
+use Rattle.pp_link.specs.declared.link.Link.{Link}
+use Rattle.pp_tree_turns.specs.Lone.{LoneTagged}
+use Rattle.pp_tree_calls.specs.Lone.{LoneNext}
 use Rattle.pp_tree_calls.proofs.turns.tag_on.Goals as goal
 
 pub lose_again-requires-clause-rest : goal.lose_again-requires-clause-rest
@@ -41,3 +45,18 @@ returns-in-None-clause-turned c = let z = c.args.pool.now.layout in let old = c.
     c.in-None.ensures.tagged.0 c.in-None.ensures.tagged.1.0 c.in-None.ensures.tagged.1.1 mid.purse c.tag_turn.ensures.purse)
     (missed_shared z old.share mid.share g l.new.going (view mid.seat) (view new.seat) mid.purse new.purse l.result
     (same_share 5 2 old.seat mid.seat _ _ _ _ _ _ _ _ old.keeping mid.keeping c.tag_turn.ensures.same) l.ensures.part)
+
+pub returns-in-Some-clause-alone : goal.returns-in-Some-clause-alone
+returns-in-Some-clause-alone c = λ lone. let z = c.args.pool.now.layout in let g = c.args.going.now in
+    let mid = c.tag_turn.new.pass in let sought = c.args.sought in let side = c.args.side in
+    let l = subst (λ (n : Next). LoneNext z g.struck n (view c.args.pass.now.seat)) c.requires.at lone in
+    let t = c.in-Some.ensures.alone l.1 in let same : c.in-Some.sibling ≡ t.0 = some_same c.in-Some.sibling t.0 t.1.0 in
+    record { lost = refl; on = (l.0, subst (λ (x : Link). LoneTagged z sought side x (view mid.seat)) (sym same) t.1.1); done = tt }
+  where
+    some_same : (a b : Link) → Some a ≡ Some b → a ≡ b
+    some_same a b e = let x : a ≡ b = cc in x
+
+pub returns-in-None-clause-alone : goal.returns-in-None-clause-alone
+returns-in-None-clause-alone c = λ lone. let z = c.args.pool.now.layout in let g = c.args.going.now in
+    let l = subst (λ (n : Next). LoneNext z g.struck n (view c.args.pass.now.seat)) c.requires.at lone in
+    absurd (let e = (c.in-None.ensures.alone l.1).1.0 in cc)

@@ -1,5 +1,5 @@
-use Rattle.std.proofs.Common.{ℕ, ◌*◌, ◌/◌, ◌%◌, ◌^◌}
-use Rattle.pp_base.specs.Passes.{known, view}
+use Rattle.std.proofs.Common.{◌/◌, ◌%◌, ◌^◌}
+use Rattle.pp_base.specs.Passes.{view}
 use Rattle.pp_link.specs.Links.{word_of}
 use Rattle.pp_tree_turns.proofs.Written.{filled, both_halves}
 use Rattle.pp_tree_turns.proofs.filling.fill.Goals as goal

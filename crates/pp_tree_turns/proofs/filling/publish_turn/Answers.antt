@@ -1,13 +1,15 @@
 use Rattle.std.proofs.Common.{◌≡◌, ℕ, false, ap, sym, ◌∙◌, subst}
-use Rattle.pp_base.specs.Passes.{known, view, IsAtRest}
+use Rattle.pp_base.specs.Passes.{view, IsAtRest}
 use Rattle.pp_base.specs.declared.purse.Purse.{Purse}
 use Rattle.pp_link.specs.Links.{word_of}
 use Rattle.pp_link.specs.declared.link.Link.{Link}
 use Rattle.pp_pool.specs.Taken.{one_fewer_out}
 use Rattle.pp_trees.specs.Edges.{TreeView}
-use Rattle.pp_tree_turns.specs.Filling.{Filled, FilledOver, OwnsAlike}
+use Rattle.pp_tree_turns.specs.Filling.{Filled, FilledOver}
 use Rattle.pp_tree_turns.proofs.Adding.{publish_readable, may_publish, publish_far, alike_then, published_to, number_small}
 use Rattle.pp_tree_turns.proofs.Adding.{rest_alike, rest_published}
+use Rattle.pp_seek.proofs.LoneSpots.{sees_of}
+use Rattle.pp_tree_turns.proofs.LonePublishes.{publish_alone}
 use Rattle.pp_tree_turns.proofs.filling.publish_turn.Goals as goal
 
 -- the new leaf, by its fields
@@ -76,3 +78,16 @@ returns-clause-spent c = λ is. c.publish.ensures.spent is
 pub returns-clause-kept : goal.returns-clause-kept
 returns-clause-kept c = λ no. c.publish.ensures.kept no
     ∙ (c.fill_over.ensures.purse ∙ (c.fill.ensures.purse ∙ c.key-here.ensures.purse))
+
+pub returns-clause-alone : goal.returns-clause-alone
+returns-clause-alone c = λ lone. let z = c.args.pool.now.layout in let s = c.args.sought in let old = c.args.pass.now in
+    let v1 = view c.key-here.new.pass.seat in let v2 = view c.fill.new.pass.seat in let mid = c.fill_over.new.pass in
+    let new = c.publish.new.pass in
+    let leaf = leaf_filled _ _ _ c.pack-nil.result v1 v2 c.pack-nil.ensures c.fill.ensures.filled in
+    let inner = over_filled _ _ c.number.result _ _ _ v2 (view mid.seat) c.number.ensures c.fill_over.ensures.filled in
+    let sizes = c.fill_over.ensures.same.sizes ∙ (c.fill.ensures.same.sizes ∙ (c.key-here.ensures.same.sizes ∙ c.requires.fits.sizes)) in
+    publish_alone z s c.args.key c.args.value c.args.leaf.number c.args.inner.number c.key-here.result _ (view old.seat) v1 v2
+    (view mid.seat) (sees_of z old.seat _ _ _ _ old.keeping old.run c.requires.fits.sizes)
+    (sees_of z mid.seat _ _ _ _ mid.keeping mid.run sizes)
+    c.key-here.ensures.read.made leaf inner c.requires.apart c.key-here.ensures.key c.requires.may lone (view new.seat)
+    (sees_of z new.seat _ _ _ _ new.keeping new.run (c.publish.ensures.same.sizes ∙ sizes)) c.publish.result c.publish.ensures.published

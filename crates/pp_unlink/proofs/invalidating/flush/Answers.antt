@@ -6,7 +6,8 @@ use Rattle.pp_unlink.proofs.invalidating.flush.Goals as goal
 pub loop-pass-preserved : goal.loop-pass-preserved
 loop-pass-preserved g c = let inv = c.loop-pass.invariant in let now = c.loop-pass.pass in let next = c.invalidate.new.pass in
     let made = c.invalidate.ensures.made in let n : ℕ = inv.0 in
-    let any : 0 < length (known now.seat).chains = let count = c.chains.ensures in let more = c.loop-pass-test.true in omega (arith, count, more) in
+    let any : 0 < length (known now.seat).chains = let count = c.chains.ensures in let more = c.loop-pass-test.true in
+    omega (arith, count, more) in
     let less = one_less (known now.seat) (known next.seat) any made.known in (
       suc n,
       (

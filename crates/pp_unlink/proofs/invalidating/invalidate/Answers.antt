@@ -20,10 +20,12 @@ returns-clause-made g c = let pass = c.args.pass.now in let z = c.args.pool.now.
     record {
       words = looked.words;
       lead = looked.lead;
-      steps = made_more (invalidations z (links_of g.S.Shape.SIDES oldest.records) looked.words) (retires (frontier_place z q.number oldest.guard))
+      steps = made_more (invalidations z (links_of g.S.Shape.SIDES oldest.records) looked.words)
+          (retires (frontier_place z q.number oldest.guard))
           (view pass.seat) (view s1) (view s2) looked.steps
           (subst (λ (k : ℕ). MadeOne (retires k) (view s1) (view s2)) place
-          (plain_one (retires (frontier_place z (known s1).number (chain_at (known s1) 0).guard)) (retiring (chain_at (known s1) 0) (known s1))
+          (plain_one (retires (frontier_place z (known s1).number (chain_at (known s1) 0).guard)) (retiring (chain_at (known s1) 0)
+          (known s1))
           (view s1) (view s2) refl refl made));
       known = known_after _ _ _ _ _ _ _ (view s1) (view s2) made ∙ retired_same q (known s1) c.requires.some looked.known_is;
     }

@@ -16,7 +16,8 @@ set_aside-requires g c = let pass = c.args.pass.now in
     let fits = hand_fits g.S.Shape.SENTINELS g.S.Shape.SIDES pass.seat _ _ _ pass.purse pass.keeping c.requires.oldest.0 in
     let chained = pass.keeping.chained (chain_at (known pass.seat) 0) (0, elem_at (known pass.seat).chains 0 _ c.requires.oldest.0) in
     let records = ap (λ (ns : List ℕ). length ns) chained.records_are in
-    let count = pass.keeping.retired_count in let none = c.requires.rest.spent in record { room = omega (arith, fits, records, count, none) }
+    let count = pass.keeping.retired_count in let none = c.requires.rest.spent in
+    record { room = omega (arith, fits, records, count, none) }
 
 pub loop-link-init : goal.loop-link-init
 loop-link-init g c = let pass = c.args.pass.now in let aside = c.set_aside.ensures.purse in (

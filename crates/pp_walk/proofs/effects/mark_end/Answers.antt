@@ -36,6 +36,7 @@ pub returns-then-flag-clause-alone : goal.returns-then-flag-clause-alone
 returns-then-flag-clause-alone c = λ lone. let z = c.args.pool.now.layout in let old = c.args.pass.now in let new = c.mark-found.new.pass in
     absurd (lone_marks z c.args.word c.mark-found.result (view old.seat) (view new.seat)
     (sees_of z old.seat _ _ _ _ old.keeping old.run c.requires.fits.sizes)
-    (sees_of z new.seat _ _ _ _ new.keeping new.run (c.mark-found.ensures.same.sizes ∙ c.requires.fits.sizes)) c.requires.word c.requires.held
+    (sees_of z new.seat _ _ _ _ new.keeping new.run (c.mark-found.ensures.same.sizes ∙ c.requires.fits.sizes)) c.requires.word
+    c.requires.held
     c.mark-found.ensures.marks.lost lone
     (ap flag_bit (sym c.unpacked-link.ensures.word) ∙ (flag_of c.unpacked-link.result ∙ ap bit (sym c.flag.ensures ∙ c.if-flag.true))))

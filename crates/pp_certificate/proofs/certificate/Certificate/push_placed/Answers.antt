@@ -7,6 +7,7 @@ pub returns : goal.returns
 returns c =
     let vectors = c.self.inside.lists.items in
     let within : c.args.caller < length vectors = omega (arith, c.self.invariant) in
-    placed_in_vectors (λ calls. calls.items) vectors c.self.inside.log.items c.args.caller _ _ c.args.placed within c.index_mut.ensures.value
+    placed_in_vectors (λ calls. calls.items) vectors c.self.inside.log.items c.args.caller _ _ c.args.placed within
+    c.index_mut.ensures.value
     c.in_ok-push.ensures.items
     ∙ ap (λ said. with_placed said c.args.caller c.args.placed) c.self.view_is

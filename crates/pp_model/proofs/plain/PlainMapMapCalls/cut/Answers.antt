@@ -1,4 +1,4 @@
-use Rattle.pp_model.proofs.PlainPasses.{plain_belongs}
+use Rattle.pp_model.proofs.PlainPasses.{plain_belongs, plain_answers}
 use Rattle.pp_model.proofs.plain.PlainMapMapCalls.cut.Goals as goal
 
 pub returns-clause-belongs : goal.returns-clause-belongs
@@ -6,4 +6,5 @@ returns-clause-belongs c =
     plain_belongs _ _ _ _ _ _ _ c.requires.belongs (c.cut.ensures c.args._races c.requires.may.budget_left)
 
 pub returns-clause-answered : goal.returns-clause-answered
-returns-clause-answered c = rw (← c.requires.belongs.share) (c.cut.ensures c.args._races c.requires.may.budget_left)
+returns-clause-answered c = rw (← c.requires.belongs.share) (plain_answers _ _ _ _ _ _
+    (c.cut.ensures c.args._races c.requires.may.budget_left))

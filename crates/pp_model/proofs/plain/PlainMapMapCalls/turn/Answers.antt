@@ -1,7 +1,7 @@
 use Rattle.std.proofs.Common.{subst}
 use Rattle.pp_model.specs.MapCalls.{AnswersCall}
 use Rattle.pp_model.specs.Plain.{plain_meaning, plain_sizes}
-use Rattle.pp_model.proofs.PlainPasses.{plain_belongs}
+use Rattle.pp_model.proofs.PlainPasses.{plain_belongs, plain_answers}
 use Rattle.pp_model.proofs.plain.PlainMapMapCalls.turn.Goals as goal
 
 pub returns-clause-belongs : goal.returns-clause-belongs
@@ -13,4 +13,4 @@ returns-clause-answered c before under =
     let going = c.args.going.now in
     subst (λ b. AnswersCall plain_meaning (plain_sizes c.args.self.now.records) going.call going.races b c.answer-answer.new.self
     c.answer-answer.result) under.same
-    (rw (← c.requires.belongs.share) (c.answer-answer.ensures going.races under.may.budget_left))
+    (rw (← c.requires.belongs.share) (plain_answers _ _ _ _ _ _ (c.answer-answer.ensures going.races under.may.budget_left)))

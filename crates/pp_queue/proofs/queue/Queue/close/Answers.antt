@@ -1,4 +1,4 @@
-use Rattle.std.proofs.Common.{◌≡◌, ◌≤◌, ◌+◌, ◌++◌, ℕ, List, [], map, length, refl, sym, ap, ◌∙◌, subst, arith}
+use Rattle.std.proofs.Common.{◌++◌, ℕ, List, map, length, sym, ap, ◌∙◌, subst, arith}
 use Rattle.pp_model.specs.declared.Pair.{Pair}
 use Rattle.pp_base.specs.Passes.{view}
 use Rattle.pp_queue.specs.Closings.{IsClosing, queue_run}

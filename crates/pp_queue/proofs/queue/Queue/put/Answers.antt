@@ -1,6 +1,6 @@
-use Rattle.std.proofs.Common.{◌≡◌, ◌≤◌, ◌+◌, ◌-◌, ℕ, List, [], ◌∷◌, length, length-append, refl, sym, ap, ◌∙◌, subst, arith}
+use Rattle.std.proofs.Common.{◌≡◌, ◌≤◌, ◌+◌, ◌-◌, ℕ, List, [], ◌∷◌, length, length-append, sym, ap, ◌∙◌, subst, arith}
 use Rattle.std.proofs.Common.{Ok, Err}
-use Rattle.pp_base.specs.Passes.{known, view, IsSame}
+use Rattle.pp_base.specs.Passes.{known, view}
 use Rattle.pp_base.proofs.Chaining.{chains_count}
 use Rattle.pp_calls.proofs.Purses.{same_share}
 use Rattle.pp_model.specs.declared.InsertFault.TheVariants as fault
@@ -10,7 +10,7 @@ use Rattle.pp_queue.specs.Calling.{HasRecord}
 use Rattle.pp_queue.specs.Answers.{Idles, Tidies, GaveUp}
 use Rattle.pp_queue.proofs.Idling.{idles_both}
 use Rattle.pp_queue.proofs.Turning.{rest_same_lists}
-use Rattle.pp_queue.proofs.Called.{walk_zero, empty_of, own_of, same_then, put_full, put_done, put_lost}
+use Rattle.pp_queue.proofs.Called.{walk_zero, own_of, same_then, put_full, put_done, put_lost}
 use Rattle.pp_queue.proofs.queue.Queue.put.Goals as goal
 use Rattle.pp_queue.proofs.Finding.{up_seat}
 

@@ -1,4 +1,4 @@
-use Rattle.std.proofs.Common.{◌≡◌, ℕ, sym, ◌∙◌}
+use Rattle.std.proofs.Common.{sym, ◌∙◌}
 use Rattle.pp_queue.proofs.Starting.{starts_standing, starts_new, starts_up}
 use Rattle.pp_queue.proofs.queue.Queue.start.Goals as goal
 

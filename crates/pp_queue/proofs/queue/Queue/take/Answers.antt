@@ -1,4 +1,4 @@
-use Rattle.std.proofs.Common.{◌≡◌, ◌≤◌, ℕ, length, refl, sym, ap, ◌∙◌, subst, arith}
+use Rattle.std.proofs.Common.{◌≡◌, ◌≤◌, ℕ, length, sym, ◌∙◌, subst, arith}
 use Rattle.pp_base.specs.Passes.{known, view}
 use Rattle.pp_base.proofs.Chaining.{chains_count}
 use Rattle.pp_calls.proofs.Purses.{same_share}

@@ -1,8 +1,6 @@
-use Rattle.std.proofs.Common.{◌≡◌, ◌≢◌, ◌<◌, ◌≤◌, ℕ, suc, ◌+◌, ◌-◌, ◌*◌, List, [], ◌∷◌, ◌++◌, length, length-append, sym, ap}
-use Rattle.std.proofs.Common.{ap₂, ◌∙◌, subst, arith, get_or, refl}
+use Rattle.std.proofs.Common.{◌≡◌, ◌<◌, ℕ, suc, ◌+◌, ◌-◌, ◌*◌, List, [], ◌∷◌, ◌++◌, length, length-append, sym, ap}
+use Rattle.std.proofs.Common.{ap₂, ◌∙◌, subst, arith, get_or}
 use Rattle.pp_link.specs.Links.{target}
-use Rattle.pp_link.specs.Places.{IsNumber}
-use Rattle.pp_queues.specs.Contents.{queue_alive}
 use Rattle.pp_queue.proofs.Gathering.{IsHalfway, pairs_of, head_small, starts, starts_halfway, in_range, cell_in, link_small}
 use Rattle.pp_queue.proofs.Gathering.{next_small, room, goes_on}
 use Rattle.pp_queue.proofs.Gathering.{first_on, one_more, ends_left, ends_nil, pairs_long, pairs_more}

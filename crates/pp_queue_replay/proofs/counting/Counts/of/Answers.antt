@@ -1,5 +1,5 @@
 use Rattle.pp_queue_replay.specs.Text.{is_full, is_lost}
-use Rattle.pp_queue_replay.proofs.Tallies.{all_fit, all_more}
+use Rattle.pp_queue_replay.proofs.Tallies.{all_fit}
 use Rattle.pp_queue_replay.proofs.counting.Counts.of.Goals as goal
 
 pub count-requires-clause-full : goal.count-requires-clause-full

@@ -96,7 +96,17 @@ returns-in-Pending-clause-shows g c = λ v shows calls answers marks mark n coun
       sym (c.mark_turn-self.ensures (count_after was is n) v.mark (c.count_turn-changes.ensures n counted)
           (c.present-future.ensures.mark ∙ sym mark)),
       (
-        record { going = h.0; before = h.1; has = h.3; ready = p.0; learnt = p.4; now = p.1; turn = p.5; leaves = leaves_on refl refl on_counted },
+        record {
+          going = h.0;
+          before = h.1;
+          has = h.3;
+          ready = p.0;
+          learnt = p.4;
+          now = p.1;
+          turn = p.5;
+          leaves = leaves_on refl refl
+              on_counted;
+        },
         noted.1,
         count_after was is n,
         c.count_turn-changes.ensures n counted,

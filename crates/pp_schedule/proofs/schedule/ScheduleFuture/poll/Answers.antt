@@ -23,4 +23,10 @@ returns-else-more-clause-value g c =
     let over = c.one_turn-note.ensures.over c.if-more.false in
     let out : c.one_turn-note.new.callers ≡ c.unwrap.result = some_same (sym c.take-else-more.ensures.value ∙ c.unwrap.ensures) in
     let items : c.in-Some.callers.items ≡ c.unwrap.result.items = sym over.0 ∙ ap (λ v. v.items) out in
-    rw (c.in-Some.is, note_is) (λ s seen may told counted. ([], s, rw c.as_slice.ensures.value at (over.1 s seen), rw (← items) seen, sym (ap calls_of items)))
+    rw (c.in-Some.is, note_is) (λ s seen may told counted. (
+      [],
+      s,
+      rw c.as_slice.ensures.value at (over.1 s seen),
+      rw (← items) seen,
+      sym (ap calls_of items),
+    ))

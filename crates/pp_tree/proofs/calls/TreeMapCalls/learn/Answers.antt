@@ -8,7 +8,9 @@ use Rattle.pp_ends.specs.Ends.{note_in}
 use Rattle.pp_ends.proofs.Learning.{learns, calls_learnt}
 use Rattle.pp_turns.specs.Turns.{BegunAt}
 use Rattle.pp_turns.proofs.Answering.{begun_on}
-use Rattle.pp_tree_calls.specs.Going.{IsUnder}
+use Rattle.pp_seek.proofs.LoneSpots.{sees_of}
+use Rattle.pp_tree_calls.proofs.AloneLearns.{lone_learnt}
+use Rattle.pp_tree.specs.Trees.{IsGoing}
 use Rattle.pp_tree.proofs.Learning.{under_learnt}
 use Rattle.pp_tree.proofs.calls.TreeMapCalls.learn.Goals as goal
 
@@ -24,10 +26,15 @@ pub returns-clause-going : goal.returns-clause-going
 returns-clause-going c = λ g before b. let z = c.args.self.now.pool.layout in let old = c.args.pass.now in let new = c.learn.new.pass in
     let l = c.learn.ensures.learnt in let v = view old.seat in let w = view new.seat in
     let share = same_share 5 2 old.seat new.seat _ _ _ _ _ _ _ _ old.keeping new.keeping c.learn.ensures.same in
-    subst (λ (n : ℕ). BegunAt n (IsUnder z n g w new.purse) before) (sym share)
-    (subst (λ (p : Purse). BegunAt old.share (IsUnder z old.share g w p) before) (sym c.learn.ensures.purse)
-    (begun_on old.share (IsUnder z old.share g v old.purse) (IsUnder z old.share g w old.purse)
-    (λ from free x. under_learnt z old.share from v w l.known_is l.order l.steps l.placed g old.purse free x) before b))
+    let sees = sees_of z old.seat _ _ _ _ old.keeping old.run c.requires.belongs.fits.sizes in
+    let then = sees_of z new.seat _ _ _ _ new.keeping new.run (c.learn.ensures.same.sizes ∙ c.requires.belongs.fits.sizes) in
+    subst (λ (n : ℕ). BegunAt n (IsGoing z n g w new.purse) before) (sym share)
+    (subst (λ (p : Purse). BegunAt old.share (IsGoing z old.share g w p) before) (sym c.learn.ensures.purse)
+    (begun_on old.share (IsGoing z old.share g v old.purse) (IsGoing z old.share g w old.purse)
+    (λ from free x. (
+      under_learnt z old.share from v w l.known_is l.order l.steps l.placed g old.purse free x.0,
+      lone_learnt z g from v w sees then l.known_is l.order l.steps x.1,
+    )) before b))
 
 pub returns-clause-learnt : goal.returns-clause-learnt
 returns-clause-learnt c = let old = c.args.pass.now in let new = c.learn.new.pass in let note = c.args.note in

@@ -87,7 +87,8 @@ returns-in-Ends-clause-turned c = let z = c.args.pool.now.layout in let v = view
     (ap (λ (k : ℕ). nat_eq c.in-Ends.key k) c.key_for.ensures) (odd_is c.in-Ends.left))
 
 pub returns-then-number-eq0-clause-alone : goal.returns-then-number-eq0-clause-alone
-returns-then-number-eq0-clause-alone c = λ lone. let z = c.args.pool.now.layout in let old = c.args.pass.now in let new = c.load_first-first.new.pass in
+returns-then-number-eq0-clause-alone c = λ lone. let z = c.args.pool.now.layout in let old = c.args.pass.now in
+    let new = c.load_first-first.new.pass in
     lone_turns z c.args.self.now c.args.self.now (view old.seat) (view new.seat) _
     (sees_of z old.seat _ _ _ _ old.keeping old.run c.requires.fits.sizes)
     (λ sizes. sees_of z new.seat _ _ _ _ new.keeping new.run sizes) c.requires.walk (returns-then-number-eq0-clause-turned c) lone
