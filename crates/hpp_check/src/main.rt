@@ -1,4 +1,4 @@
-//! Checks a certificate of a map's history, from standard input to standard output.
+//! Checks a certificate of a map's history, from standard input to standard output: the program of `pp_check`.
 #![tactic(auto)]
 
 use pp_check::judge;

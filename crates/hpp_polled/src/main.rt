@@ -1,4 +1,5 @@
-//! Replays a trace of map calls on one thread, turn by turn in the order of the plan behind it, from standard input to standard output.
+//! Replays a trace of map calls on one thread, turn by turn in the order of the plan behind it, from standard input to standard output: the
+//! program of `pp_poll`.
 #![tactic(auto)]
 
 use pp_devices::{Way, tell};

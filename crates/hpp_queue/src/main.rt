@@ -1,4 +1,4 @@
-//! Replays a trace of a queue's calls, from standard input to standard output.
+//! Replays a trace of a queue's calls, from standard input to standard output: the program of `pp_queue_replay`.
 #![tactic(auto)]
 
 use pp_devices::{Way, tell};

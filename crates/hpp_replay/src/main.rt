@@ -1,4 +1,4 @@
-//! Replays a trace of map calls, from standard input to standard output.
+//! Replays a trace of map calls, from standard input to standard output: the program of `pp_replay`.
 #![tactic(auto)]
 
 use pp_devices::{Way, tell};

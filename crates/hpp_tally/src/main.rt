@@ -1,4 +1,5 @@
-//! Counts how often each byte value stands on standard input, by callers that claim its pieces, and writes the counts to standard output.
+//! Counts how often each byte value stands on standard input, by callers that claim its pieces, and writes the counts to standard output:
+//! the program of `pp_tally`.
 #![tactic(auto)]
 
 use pp_devices::{Way, tell};

@@ -1,4 +1,6 @@
-//! The table of a pool under its rule: pools, passes, and the atomic steps that every structure makes.
+//! The table of a pool under its rule: pools, passes, and the atomic steps that every structure makes. The layers above make the steps of a
+//! structure's own as those that `Pass` has (`load_word`, `store_word`, `exchange_word`, `set_bits`, `swap_word`), and all others by the
+//! crates `pp_pool`, `pp_hazard`, `pp_unlink`, `pp_reclaim` and `pp_shelf`.
 #![tactic(auto)]
 
 pub mod chains;

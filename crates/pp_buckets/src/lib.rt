@@ -1,4 +1,4 @@
-//! A hash table over a pool: one list for each bucket of keys.
+//! A hash table over a pool: one list for each bucket of keys. The layers above `start` one and use it as any map, by `MapCalls`.
 #![tactic(auto)]
 
 pub mod calls;

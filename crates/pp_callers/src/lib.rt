@@ -1,4 +1,5 @@
-//! Callers that make their calls side by side, each with a pass of its own, in threads.
+//! Callers that make their calls side by side, each with a pass of its own, in threads. The layers above make a `Job` for each caller and
+//! `run` them all.
 #![tactic(auto)]
 
 ghost use Rattle.std.specs.Prelude.{◌≡◌, ◌≤◌, vec_capacity};

@@ -1,4 +1,5 @@
-//! Certificates of a map's history: their grammar, and a reader of them.
+//! Certificates of a map's history: their grammar, and a reader of them. The layers above use `read_certificate`, and take the log and the
+//! lists from the `Certificate`.
 #![tactic(auto)]
 
 mod certificate;

@@ -1,4 +1,5 @@
-//! Checks certificates of a map's history: whether the calls that they list stand in one legal history.
+//! Checks certificates of a map's history: whether the calls that they list stand in one legal history. The layers above `check` a history,
+//! or `judge` the text of a certificate from a source to a sink.
 #![tactic(auto)]
 
 ghost use Rattle.std.specs.Prelude.{◌≡◌, ◌≤◌, length, IfOk};

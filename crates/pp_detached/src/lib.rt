@@ -1,4 +1,5 @@
-//! Letting a record go, told with it: what the pass detached can't be reached any more.
+//! Letting a record go, told with it: what the pass detached can't be reached any more. The layers above use `clear_after` in the place of
+//! `pp_hazard`'s `clear`, where an answer rests on what was detached.
 #![tactic(auto)]
 
 ghost use Rattle.std.specs.Prelude.{◌≡◌, ◌<◌};

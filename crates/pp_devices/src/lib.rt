@@ -1,4 +1,5 @@
-//! The devices of a program: what its source and its sink show, the ways in which it ends, and the line on `errs` that tells its way.
+//! The devices of a program: what its source and its sink show, the ways in which it ends, and the line on `errs` that tells its way. The
+//! programs end in a `Way`, and `tell` writes its line and gives its status.
 #![tactic(auto)]
 
 mod telling;

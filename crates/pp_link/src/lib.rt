@@ -1,4 +1,5 @@
-//! Link words, and the layout of the table that holds all words of a pool.
+//! Link words, and the layout of the table that holds all words of a pool. The layers above build and read words by `Link`, and find each
+//! word's place by `Layout`.
 #![tactic(auto)]
 
 pub mod laws;

@@ -1,4 +1,5 @@
-//! Calls on one list of a pool, turn by turn.
+//! Calls on one list of a pool, turn by turn. The layers above begin a `ListGoing` for a `ListOp`, and have it make turns until one of them
+//! answers.
 #![tactic(auto)]
 
 pub mod calls;

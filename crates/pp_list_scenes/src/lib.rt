@@ -1,4 +1,4 @@
-//! Worked scenes over a table of lists: its calls turn by turn, with what no single clause says, run once each.
+//! Worked scenes over a table of lists: its calls turn by turn, with what no single clause says, run once each. This crate has tests alone.
 //!
 //! Where a link was loaded once and is loaded again to confirm it, another caller's step would have to come between two steps of
 //! one turn for INVALID to stand there. No test on one thread can bring that about, so that these scenes meet INVALID at the first

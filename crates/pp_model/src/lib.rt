@@ -1,5 +1,6 @@
-//! A map from keys to values as its callers see it: calls, replies, one history of them, and the interface
-//! that every map of this project meets.
+//! A map from keys to values as its callers see it: calls, replies, one history of them, and the interface that every map of this project
+//! meets. The layers above implement `MapCalls` or call through it, by `answer_one` and `answer_all`, and have `linearization_is_legal` for
+//! what their callers have seen; `PlainMap` is the sequential map.
 #![tactic(auto)]
 
 pub mod calling;

@@ -1,4 +1,5 @@
-//! Where bytes come from and where they go, seen so that a contract can name the bytes and the faults.
+//! Where bytes come from and where they go, seen so that a contract can name the bytes and the faults. The layers above read by `read_all`
+//! from any `Source`, write to any `Sink`, and have a `Gate` called around each call of a map.
 #![tactic(auto)]
 
 ghost use Rattle.std.specs.Prelude.{◌≡◌, ℕ, ◌<◌, ◌≤◌, List, length, Option, Result, IfOk};

@@ -1,4 +1,5 @@
-//! A second shape for scenes, PegShape, and worked scenes over pools of it: what no single clause says, run once each.
+//! A second shape for scenes, PegShape, and worked scenes over pools of it: what no single clause says, run once each. This crate has tests
+//! alone.
 #![tactic(auto)]
 
 #[cfg(test)]

@@ -1,4 +1,5 @@
-//! The history of a run by a plan, found from its calls, their answers and their marks: its log, and where each call has its place.
+//! The history of a run by a plan, found from its calls, their answers and their marks: its log, and where each call has its place. The
+//! layers above use `history_of`, and `certificate_of` for its text.
 #![tactic(auto)]
 
 ghost use Rattle.std.specs.Prelude.{◌≡◌, ◌≤◌, map, length, IfOk};

@@ -1,4 +1,5 @@
-//! A run of callers' calls by a plan of turns, on one thread, from a map's start to its closing.
+//! A run of callers' calls by a plan of turns, on one thread, from a map's start to its closing. The layers above use `run_by_plan`, and
+//! read what came of it from `Planned`.
 #![tactic(auto)]
 
 ghost use Rattle.std.specs.Prelude.{◌≡◌, ◌≤◌, ◌<◌, ◌⊎◌, map, length, IfOk, IfErr};

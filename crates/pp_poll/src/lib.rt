@@ -1,4 +1,5 @@
-//! A replay whose calls are polled by hand on one thread, by a plan of turns that stands behind the trace.
+//! A replay whose calls are polled by hand on one thread, by a plan of turns that stands behind the trace. `hpp_polled` calls `polled` and
+//! no more; who polls calls of his own finds `CallFuture`, `BlockOn` and the like here too.
 #![tactic(auto)]
 
 ghost use Rattle.std.specs.Prelude.{◌≡◌, map, string_bytes};

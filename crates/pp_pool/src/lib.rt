@@ -1,5 +1,6 @@
-//! A pool from its opening to its end: it is made with a pass for each caller, its records are taken and given back, and it
-//! is closed over all its passes.
+//! A pool from its opening to its end: it is made with a pass for each caller, its records are taken and given back, and it is closed over
+//! all its passes. The layers above use `make_pool` and `close`, fill a taken record (`take`, `set_key`, `set_value`, `set_link`), and then
+//! call it `published` or give it back.
 #![tactic(auto)]
 
 pub mod carried;

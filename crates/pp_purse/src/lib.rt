@@ -1,5 +1,5 @@
-//! What a call that changes a map does to the purse of its pass: it finds free records before its change, and tidies at its
-//! end.
+//! What a call that changes a map does to the purse of its pass: it finds free records before its change, and tidies at its end. The layers
+//! above use `find_free` and `tidy`.
 #![tactic(auto)]
 
 ghost use Rattle.std.specs.Prelude.{◌≡◌, ◌≤◌, ◌↔◌, true, false, length};

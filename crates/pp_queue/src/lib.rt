@@ -1,4 +1,5 @@
-//! The queue of a pool: its shape, the steps that are its own, and its calls.
+//! The queue of a pool: its shape, the steps that are its own, and its calls. The layers above `start` a `Queue`, `put` and `take` through
+//! each pass, and `close` it.
 #![tactic(auto)]
 
 pub mod calling;

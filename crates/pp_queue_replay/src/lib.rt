@@ -1,4 +1,5 @@
-//! The whole replay of a queue: words and a trace in, answers and what is left out, and one history of the calls between them.
+//! The whole replay of a queue: words and a trace in, answers and what is left out, and one history of the calls between them. `hpp_queue`
+//! calls `queue_replay` and no more.
 #![tactic(auto)]
 
 ghost use Rattle.std.specs.Prelude.{◌≡◌, map, string_bytes};

@@ -1,4 +1,4 @@
-//! Worked scenes over a queue: what no single clause says, run once each.
+//! Worked scenes over a queue: what no single clause says, run once each. This crate has tests alone.
 #![tactic(auto)]
 
 #[cfg(test)]

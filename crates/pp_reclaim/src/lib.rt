@@ -1,4 +1,4 @@
-//! Reclaiming: a pass reads all hazard words, and what none of them names is free with it.
+//! Reclaiming: a pass reads all hazard words, and what none of them names is free with it. The layers above use `reclaim` and no more.
 #![tactic(auto)]
 
 pub mod reclaiming;

@@ -1,4 +1,5 @@
-//! The whole replay: words and a trace in, answers and contents out, and one history of the calls between them.
+//! The whole replay: words and a trace in, answers and contents out, and one history of the calls between them. `hpp_replay` calls `replay`
+//! and no more; the other programs start their maps as this one does.
 #![tactic(auto)]
 
 ghost use Rattle.std.specs.Prelude.{◌≡◌, map, string_bytes};

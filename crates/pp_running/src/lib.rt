@@ -1,4 +1,5 @@
-//! A run: the calls of all callers on a map, each caller in a thread, and its closing.
+//! A run: the calls of all callers on a map, each caller in a thread, and its closing. The layers above use `run_on`, over any map, and
+//! read what came of it from `Ran`.
 #![tactic(auto)]
 
 ghost use Rattle.std.specs.Prelude.{◌≡◌, ◌≤◌, map, length, IfOk};

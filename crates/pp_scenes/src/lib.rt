@@ -1,5 +1,5 @@
-//! Worked scenes over pools of RowShape: what no single clause says, run once each. This crate has tests alone, and what they know of
-//! their passes.
+//! Worked scenes over pools of RowShape: what no single clause says, run once each. This crate has tests alone, and what they know of their
+//! passes; scenes of another shape may use that.
 #![tactic(auto)]
 
 #[cfg(test)]

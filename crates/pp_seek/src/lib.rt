@@ -1,4 +1,5 @@
-//! Seeks: how a call comes from the root of a tree to the leaf of its key.
+//! Seeks: how a call comes from the root of a tree to the leaf of its key. The layers above have a `Seek` make turns until it has `Sought`
+//! a leaf, with what is held above it.
 #![tactic(auto)]
 
 pub mod keeping;

@@ -1,4 +1,5 @@
-//! The tally: callers claim the pieces of an input by inserts into one map, and each counts the bytes of those that it won.
+//! The tally: callers claim the pieces of an input by inserts into one map, and each counts the bytes of those that it won. `hpp_tally`
+//! calls `tally` and no more.
 #![tactic(auto)]
 
 ghost use Rattle.std.specs.Prelude.{◌≡◌, map, string_bytes};

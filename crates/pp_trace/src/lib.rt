@@ -1,4 +1,5 @@
-//! Traces of map calls: their grammar, made traces, and the printed text of a run.
+//! Traces of map calls: their grammar, made traces, and the printed text of a run. The layers above `parse` bytes or make a `Trace`, give
+//! its lists to callers, and print by `Printer`; grammars of their own read by `next_line`, `next_field` and `read_number`.
 #![tactic(auto)]
 
 mod counting;

@@ -1,4 +1,4 @@
-//! A search tree over a pool, as a map that callers share.
+//! A search tree over a pool, as a map that callers share. The layers above `start` one and use it as any map, by `MapCalls`.
 #![tactic(auto)]
 
 pub mod calls;

@@ -1,4 +1,4 @@
-//! A tree over a pool, and its calls turn by turn.
+//! A tree over a pool, and its calls turn by turn. The layers above begin a `TreeGoing`, and have it make turns until one of them answers.
 #![tactic(auto)]
 
 pub mod calls;

@@ -1,4 +1,5 @@
-//! The turns of a tree's calls, each by the steps that it makes.
+//! The turns of a tree's calls, each by the steps that it makes. The layers above use `publish_turn`, `flag_turn`, `tag_turn` and
+//! `splice_turn` after a seek, and read a tree's steps as this crate does.
 #![tactic(auto)]
 
 pub mod filling;

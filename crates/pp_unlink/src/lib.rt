@@ -1,4 +1,5 @@
-//! Taking chains of records out of a structure, and retiring them once no link leads through them any more.
+//! Taking chains of records out of a structure, and retiring them once no link leads through them any more. The layers above detach by
+//! `try_unlink`, and `invalidate` or `flush` before they reclaim.
 #![tactic(auto)]
 
 pub mod invalidating;

@@ -1,4 +1,5 @@
-//! The settings of a replay, read from the words of its command line.
+//! The settings of a replay, read from the words of its command line. The layers above have `settings` read them, and use what `Settings`
+//! holds.
 #![tactic(auto)]
 
 mod command;
