@@ -49,7 +49,8 @@ use Rattle.pp_model.proofs.Finding.{find_put}
 use Rattle.pp_lists.proofs.Changing.{listed_published, mapped_published, intact_published, none_yet}
 use Rattle.pp_rule.proofs.Learnt.{value_by, never_learnt}
 use Rattle.pp_lists.proofs.Heaps.{sane_of, rewired_of, place_of_live, cell_once}
-use Rattle.pp_lists.proofs.Keeping.{Steadily, lists_changed, lists_alike, gathering_on, any_word}
+use Rattle.pp_rule.proofs.OwnSteps.{any_word}
+use Rattle.pp_lists.proofs.Keeping.{Steadily, lists_changed, lists_alike, gathering_on}
 use Rattle.pp_lists.proofs.Leaving.{in_without, without_in, rewired_flag, left_more, left_fewer, leaves_published}
 use Rattle.pp_lists.proofs.Telling.{change_told, place_told}
 

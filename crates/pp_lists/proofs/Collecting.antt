@@ -27,7 +27,8 @@ use Rattle.pp_lists.specs.Turns.{and_gathered, gathering}
 use Rattle.pp_lists.proofs.Walking.{real}
 use Rattle.pp_lists.proofs.Taking.{chain_on}
 use Rattle.pp_lists.proofs.Heaps.{sane_of}
-use Rattle.pp_lists.proofs.Keeping.{Steadily, HoldsStill, any_word, stood_on, gathering_on}
+use Rattle.pp_rule.proofs.OwnSteps.{HoldsStill, any_word}
+use Rattle.pp_lists.proofs.Keeping.{Steadily, stood_on, gathering_on}
 use Rattle.pp_lists.proofs.Marking.{joined_more, intact_more, none_intact, less_from}
 use Rattle.pp_lists.proofs.Standing.{lists_own, walks_of, held_of}
 

@@ -17,32 +17,24 @@ use Rattle.pp_model.specs.FiniteMap.{find}
 use Rattle.pp_model.specs.History.{after, contents_of, Sound, Stands}
 use Rattle.pp_model.proofs.Histories.{stands_grown}
 use Rattle.pp_rule.specs.declared.views.WalkSlot.{WalkSlot}
-use Rattle.pp_rule.specs.declared.views.PassState.{PassState}
 use Rattle.pp_rule.specs.Lists.{IsIn}
 use Rattle.pp_rule.specs.Orders.{log_of, placed_by, IsQuietStep}
 use Rattle.pp_rule.specs.Views.{slot}
 use Rattle.pp_rule.specs.States.{RecordState, attached, PoolState, IsUsed}
 use Rattle.pp_rule.specs.Rule.{Base}
-use Rattle.pp_rule.specs.Looks.{LooksSame, SameOwn, HoldsOn, Clears, Cleared, Invalidates}
-use Rattle.pp_rule.proofs.Put.{put, put_each, in_nil, in_one, in_either}
+use Rattle.pp_rule.specs.Looks.{LooksSame, SameOwn, Clears, Cleared, Invalidates}
+use Rattle.pp_rule.proofs.Put.{put, put_each, in_one}
 use Rattle.pp_rule.proofs.Histories.{log_snoc, quiet_log, quiet_placed, placed_else}
 use Rattle.pp_rule.proofs.Stepping.{after_step}
+use Rattle.pp_rule.proofs.OwnSteps.{HoldsStill, any_word, still_held, own_more, own_quiet}
 use Rattle.pp_lists.specs.declared.own.Gathered.{Gathered}
 use Rattle.pp_lists.specs.declared.own.ListOwn.{ListOwn}
 use Rattle.pp_lists.specs.Walks.{Heap, heap, Finds, IsSeen, Sane, Listed, Mapped, Joined, Intact, IsRight}
-use Rattle.pp_lists.specs.Lists.{ListPass, ListState, ListStep, Stood, Gathering, Walks, Leaves, Lists, IsOwnStep, list_forget}
+use Rattle.pp_lists.specs.Lists.{ListPass, ListState, ListStep, Stood, Gathering, Walks, Leaves, Lists, list_forget}
 use Rattle.pp_lists.proofs.Leaving.{leaves_on}
 use Rattle.pp_lists.proofs.Walking.{Fewer, finds_fewer}
 use Rattle.pp_lists.proofs.Shaping.{listed_fewer, mapped_fewer, intact_fewer, is_linked}
 use Rattle.pp_lists.proofs.Heaps.{sane_of, fewer_seen, fewer_invalid}
-
--- these words hold what they held
-pub record HoldsStill (ok : ℕ → Type 0) (w w' : ℕ → WalkSlot) : Type 0 where
-  pub held : (i : ℕ) → i < 5 → ok i → (w i).held ≡ true → (w' i).held ≡ true
-  pub named : (i : ℕ) → i < 5 → ok i → (w i).held ≡ true → (w' i).named ≡ (w i).named
-
-abbrev pub any_word : ℕ → Type 0
-any_word i = Unit {0}
 
 -- What a step has to show for the walks of a pass that goes on as it was.
 pub record Steadily (z : Sizes) (t t' : Heap) (log log' : List Change) : Type 0 where
@@ -113,23 +105,6 @@ pub seen_held : {E A W : Type 0} (z : Sizes) (words : List ℕ) (g : PoolState E
     → i < 5 → (slot (g.of p) i).held ≡ true → IsSeen z (heap z words g.status) (slot (g.of p) i).named
 seen_held z words g b p lt i li held = let h = b.hazards.held p i lt li held in inr (h.number, h.used)
 
-pub still_held : {W : Type 0} (q q' : PassState W) → HoldsOn q q' → HoldsStill any_word (slot q) (slot q')
-still_held q q' h = record { held = λ i lt _ y. (h.each i lt y).held; named = λ i lt _ y. (h.each i lt y).named }
-
--- one step more, whose changes are those of its pass
-pub own_more : (order : List ListStep) (s : ListStep) → ((m : ListStep) → IsIn m order → IsOwnStep m) → IsOwnStep s
-    → (m : ListStep) → IsIn m (order ++ s ∷ []) → IsOwnStep m
-own_more order s all own m i = ⊎_elim (all m) (λ (last : IsIn m (s ∷ [])). subst IsOwnStep (in_one m s last) own)
-    (in_either m order (s ∷ []) i)
-
-pub own_none : (s : ListStep) → s.entry.changes ≡ [] → IsOwnStep s
-own_none s none c i = absurd (in_nil c (subst (λ (cs : List Change). IsIn c cs) none i))
-
-own_quiet : (order order' : List ListStep) → IsQuietStep order order' → ((m : ListStep) → IsIn m order → IsOwnStep m)
-    → (m : ListStep) → IsIn m order' → IsOwnStep m
-own_quiet order order' q all m i = own_more order q.step all (own_none q.step q.no_change) m
-    (subst (λ (l : List ListStep). IsIn m l) q.is i)
-
 module _ (z : Sizes) (words words' : List ℕ) (g g' : ListState) (b : Base 1 z words g) (b' : Base 1 z words' g') where
   -- a pass that is as it was, but for what it holds more
   pub kept_pass : (log : List Change) → Steadily z (heap z words g.status) (heap z words' g'.status) log log → (p : ℕ)
@@ -152,7 +127,7 @@ module _ (z : Sizes) (words words' : List ℕ) (g g' : ListState) (b : Base 1 z 
   lists_quiet quiet listed mapped each leaves l = let t' : Heap = heap z words' g'.status in
       let log : log_of g'.order ≡ log_of g.order = quiet_log g.order g'.order quiet in record {
         sound = subst Sound (sym log) l.sound;
-        own_changes = own_quiet g.order g'.order quiet l.own_changes;
+        own_changes = own_quiet (λ (c : Change). c.caller) g.order g'.order quiet l.own_changes;
         listed = listed;
         mapped = subst (λ (log : List Change). Mapped z t' (contents_of log)) (sym log) mapped;
         each = λ p lt. subst (λ (log : List Change). Walks z t' log p (slot (g'.of p)) (g'.of p).own (placed_by p g'.order))
@@ -279,7 +254,7 @@ module _ (z : Sizes) (words words' : List ℕ) (g : ListState) (q q' : ListPass)
       let now : log_of (g.order ++ e ∷ []) ≡ log ++ c ∷ [] = log_snoc g.order e ∙ ap (λ (l : List Change). log ++ l) told in
       record {
         sound = subst Sound (sym now) sound;
-        own_changes = own_more g.order e l.own_changes
+        own_changes = own_more (λ (c : Change). c.caller) g.order e l.own_changes
             (λ d i. ap (λ (c : Change). c.caller) (sym (in_one d c (subst (λ (cs : List Change). IsIn d cs) told i)))
             ∙ (caller ∙ sym own_pass));
         listed = listed;

@@ -1,11 +1,10 @@
 -- What a step leaves that changes no word and no state, but the list's own part of a pass.
-use Rattle.std.proofs.Common.{◌≡◌, ◌≢◌, inl, inr, ⊎_elim, ℕ, zero, suc, ◌+◌, ◌<◌, ◌≤◌, Bool, true, false, cond, nat_eq}
+use Rattle.std.proofs.Common.{◌≡◌, ◌≢◌, inl, inr, ⊎_elim, ℕ, ◌+◌, ◌<◌, ◌≤◌, Bool, true, false, cond, nat_eq}
 use Rattle.std.proofs.Common.{List, [], ◌∷◌, ◌++◌, length, get_or, Option, Some, None, sym, refl, ap, ◌∙◌, subst, arith}
 use Rattle.std.proofs.Common.{append-nil}
 use Rattle.std.specs.Prelude.{◌-◌}
 use Rattle.std.proofs.Math.Bool.{false≢true}
 use Rattle.std.proofs.Math.Decide.{ℕ_discrete}
-use mathlib.Core.Logic.{dite}
 use Rattle.atomic_table.specs.Table.{Me}
 use Rattle.pp_link.specs.declared.layout.Sizes.{Sizes}
 use Rattle.pp_link.specs.Links.{target, invalid_bit, flag_bit}
@@ -36,6 +35,7 @@ use Rattle.pp_rule.proofs.Histories.{log_snoc, placed_here, placed_else}
 use Rattle.pp_rule.proofs.Stepping.{after_step, Plays}
 use Rattle.pp_rule.proofs.Sources.{source_sound}
 use Rattle.pp_rule.proofs.Keeping.{base_idle, load_keeps}
+use Rattle.pp_rule.proofs.OwnSteps.{own_more, own_none, log_quiet, placed_told, plays_as, least_from}
 use Rattle.pp_lists.specs.declared.own.ListOwn.{ListOwn}
 use Rattle.pp_lists.specs.Walks.{Heap, heap, at_head, Finds, answer, bucket, Mapped, IsRight}
 use Rattle.pp_lists.specs.Walks.Finds.{here, on}
@@ -45,10 +45,8 @@ use Rattle.pp_lists.specs.Turns.StandsAt.{on_head, on_record}
 use Rattle.pp_lists.proofs.Answering.{less_or, past_none, answer_flagged}
 use Rattle.pp_lists.proofs.Walking.{finds_right, real}
 use Rattle.pp_lists.proofs.Heaps.{sane_of}
-use Rattle.pp_lists.proofs.Keeping.{own_more, own_none}
 use Rattle.pp_lists.proofs.Leaving.{leaves_on}
 use Rattle.pp_lists.proofs.Marking.{same_base}
-use Rattle.pp_lists.proofs.Telling.{log_quiet, placed_told}
 
 option_eq : (x y : Option ℕ) → Dec (x ≡ y)
 option_eq None None = yes refl
@@ -59,17 +57,6 @@ option_eq (Some v) (Some w) = go (ℕ_discrete v w)
     go : Dec (v ≡ w) → Dec (Some v ≡ Some w)
     go (yes e) = yes (ap Some e)
     go (no ne) = no (λ e. ne (cc))
-
--- the least number from s on with the property
-least_from : (P : ℕ → Type 0) → ((n : ℕ) → Dec (P n)) → (start d s : ℕ) → start ≤ s → P (s + d)
-    → ((q : ℕ) → start ≤ q → q < s → P q → ⊥)
-    → (p : ℕ) × (start ≤ p) × (p ≤ s + d) × P p × ((q : ℕ) → start ≤ q → q < p → P q → ⊥)
-least_from P dec start zero s le h none = let e : s + 0 ≡ s = omega arith in (s, le, omega arith, subst P e h, none)
-least_from P dec start (suc d) s le h none = dite (dec s) (λ y. (s, le, omega arith, y, none))
-    (λ n. let e : s + suc d ≡ (s + 1) + d = omega arith in
-    let r = least_from P dec start d (s + 1) (omega arith) (subst P e h)
-    (λ q lo hi y. dite (ℕ_discrete q s) (λ same. n (subst P same y)) (λ ne. none q lo (omega arith) y)) in
-    let hi = r.2 in (r.0, r.1, omega arith, r.3, r.4))
 
 cut_some : (b : Bool) (w : ℕ) → cond b (Took w) (Other w) ≡ Absent → ⊥
 cut_some true w e = cc
@@ -132,7 +119,7 @@ lists_own z words g q q' e l told pass number own is left = let log : List Chang
     let mine : placed_by q.number (g.order ++ e ∷ []) ≡ placed_by q.number g.order ++ e.placed =
     subst (λ (n : ℕ). placed_by n (g.order ++ e ∷ []) ≡ placed_by n g.order ++ e.placed) pass (placed_here g.order e) in record {
       sound = subst Sound (sym now) l.sound;
-      own_changes = own_more g.order e l.own_changes (own_none e told);
+      own_changes = own_more (λ (c : Change). c.caller) g.order e l.own_changes (own_none (λ (c : Change). c.caller) e told);
       listed = l.listed;
       mapped = subst (λ (log : List Change). Mapped z t (contents_of log)) (sym now) l.mapped;
       each = λ p lt. subst (λ (log : List Change). Walks z t log p (slot (put g.of q'.number q' p)) (put g.of q'.number q' p).own
@@ -148,21 +135,6 @@ lists_own z words g q q' e l told pass number own is left = let log : List Chang
           (left ∙ ap (λ (v : ListPass). v.own.left) (sym is ∙ ap g.of (sym number))) (λ r _. refl) p)
           (λ n _ st. (st, refl)) l.leaves;
     }
-
-module _ (opens : Sizes → List ℕ) where
-  -- what a step tells may be told by other words
-  pub plays_as : {kind place word left : ℕ} {z : Sizes} {words : List ℕ} {g : ListState} {v : ListView}
-      (then then' : Me Unit ListView → Type 0)
-      → Plays 1 opens Lists kind place word left z words g v then → ((w : ListView) → then (w, []) → then' (w, []))
-      → Plays 1 opens Lists kind place word left z words g v then'
-  plays_as then then' p f = record {
-    known = p.known;
-    status = p.status;
-    changes = p.changes;
-    placed = p.placed;
-    keeps_rule = p.keeps_rule;
-    tells = λ w at made. f w (p.tells w at made);
-  }
 
 -- the state of a pass at a step
 module _ (z : Sizes) (words : List ℕ) (g : ListState) (q : ListPass) (b : Base 1 z words g) (lists : Lists z words g)
@@ -391,11 +363,11 @@ module _ (z : Sizes) (words : List ℕ) (g : ListState) (q : ListPass) (b : Base
         let then : Me Unit ListView → Type 0 =
         λ m'. (m'.1 ≡ []) × (EndsWith own kind place n a v m'.0 × (log_of m'.0.order ≡ log_of g.order)) in
         by_reply (changes (reply_at own.call a))
-        (λ idle. plays_as opens (λ m'. (m'.1 ≡ []) × (Settled own kind place n a v m'.0
+        (λ idle. plays_as 1 opens Lists (λ m'. (m'.1 ≡ []) × (Settled own kind place n a v m'.0
         × (log_of m'.0.order ≡ log_of g.order))) then
         (plays_settled a going idle r)
         (λ w y. (y.0, (((λ _. y.1.0), (λ change. absurd (false≢true (sym idle ∙ change)))), y.1.1))))
-        (λ change. plays_as opens (λ m'. (m'.1 ≡ []) × (MadeQuietStep kind place n n (with_own own q) v m'.0
+        (λ change. plays_as 1 opens Lists (λ m'. (m'.1 ≡ []) × (MadeQuietStep kind place n n (with_own own q) v m'.0
         × (log_of m'.0.order ≡ log_of g.order))) then plays_own
         (λ w y. (
           y.0,

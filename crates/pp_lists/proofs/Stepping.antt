@@ -29,6 +29,7 @@ use Rattle.pp_rule.proofs.Stepping.{after_step, Plays, allows, allows_by}
 use Rattle.pp_rule.proofs.Sources.{source_sound}
 use Rattle.pp_rule.proofs.Keeping.{load_keeps, idle_keeps}
 use Rattle.pp_rule.proofs.Confirming.{base_confirmed}
+use Rattle.pp_rule.proofs.OwnSteps.{plays_as}
 use Rattle.pp_lists.specs.declared.own.ListOwn.{ListOwn}
 use Rattle.pp_lists.specs.Walks.{heap, Finds, IsRight, Joined, Intact, bucket}
 use Rattle.pp_lists.specs.Walks.Finds.{ends}
@@ -39,7 +40,7 @@ use Rattle.pp_lists.specs.Turns.{standing, Came, Ended, gathering, anchored, Gat
 use Rattle.pp_lists.specs.Turns.StandsAt.{on_head, on_record}
 use Rattle.pp_lists.proofs.Keeping.{lists_alike}
 use Rattle.pp_rule.proofs.Made.{known_after}
-use Rattle.pp_lists.proofs.Standing.{plays_as, WalksAs, walks_of, held_of, from_here, home_here, rises_here, ends_right}
+use Rattle.pp_lists.proofs.Standing.{WalksAs, walks_of, held_of, from_here, home_here, rises_here, ends_right}
 use Rattle.pp_lists.proofs.Standing.{is_loaded, plays_own, plays_end, lists_own}
 use Rattle.pp_lists.proofs.Collecting.{keeps_gathered}
 
@@ -81,7 +82,7 @@ module _ (opens : Sizes → List ℕ) where
       get_or words place 0 in
       dite (ℕ_discrete (invalid_bit n) 0)
       (λ ok. dite (ℕ_discrete (target n) 0)
-      (λ nil. plays_as opens (λ m'. (m'.1 ≡ []) × (EndsWith own load_step place n None v m'.0
+      (λ nil. plays_as 1 opens Lists (λ m'. (m'.1 ≡ []) × (EndsWith own load_step place n None v m'.0
       × (log_of m'.0.order ≡ log_of g.order)))
       (λ m'. (m'.1 ≡ []) × (Reached own place n v m'.0 × (log_of m'.0.order ≡ log_of g.order)))
       (plays_end z words g q b lists pass is opens v known_is sizes load_step place own o left None going (right (ok, nil)))
@@ -103,7 +104,7 @@ module _ (opens : Sizes → List ℕ) where
       on_it : (IsNil (get_or words place 0) → ⊥) → Plays 1 opens Lists load_step place (get_or words place 0)
           (get_or words place 0) z words g v
           (λ m'. (m'.1 ≡ []) × (Reached own place (get_or words place 0) v m'.0 × (log_of m'.0.order ≡ log_of g.order)))
-      on_it never = plays_as opens (λ m'. (m'.1 ≡ []) × (MadeQuietStep load_step place (get_or words place 0)
+      on_it never = plays_as 1 opens Lists (λ m'. (m'.1 ≡ []) × (MadeQuietStep load_step place (get_or words place 0)
           (get_or words place 0) (with_own own q) v m'.0
           × (log_of m'.0.order ≡ log_of g.order)))
           (λ m'. (m'.1 ≡ []) × (Reached own place (get_or words place 0) v m'.0 × (log_of m'.0.order ≡ log_of g.order)))
@@ -135,7 +136,7 @@ module _ (opens : Sizes → List ℕ) where
       (λ words g b add pass is sizes fits. let n : ℕ = get_or words place 0 in let o = walks_of z words g q b add pass is in
       let source = source_of z q (key_of q.own.call) place
       (λ j e lj. subst (λ (j : ℕ). (slot q j).held ≡ true) (sym e) (o.stood.held (subst (λ (j : ℕ). j < 5) e lj))) at in
-      plays_as opens (λ m'. (m'.1 ≡ []) × (Reached q.own place n me.0 m'.0 × (log_of m'.0.order ≡ log_of g.order)))
+      plays_as 1 opens Lists (λ m'. (m'.1 ≡ []) × (Reached q.own place n me.0 m'.0 × (log_of m'.0.order ≡ log_of g.order)))
       (λ m'. (m'.1 ≡ []) × Reached q.own place n me.0 m'.0)
       (plays_reach z words g q b add pass is me.0 refl sizes place q.own (is_loaded z words g q b add pass is sizes place source)
       (finds_learnt z words g q b add pass is sizes place) o refl going
@@ -163,7 +164,7 @@ module _ (opens : Sizes → List ℕ) where
           intact = λ bad. absurd (omega arith);
         };
       } in
-      plays_as opens (λ m'. (m'.1 ≡ []) × (Reached own place n me.0 m'.0 × (log_of m'.0.order ≡ log)))
+      plays_as 1 opens Lists (λ m'. (m'.1 ≡ []) × (Reached own place n me.0 m'.0 × (log_of m'.0.order ≡ log)))
       (λ m'. (m'.1 ≡ []) × Begins place n call me.0 m'.0)
       (plays_reach z words g q b add pass is me.0 refl sizes place own
       (is_loaded z words g q b add pass is sizes place (inl (head, (low, at))))
@@ -319,7 +320,7 @@ module _ (opens : Sizes → List ℕ) where
       dite (ℕ_discrete (invalid_bit n) 0)
       (λ ok. subst (λ (b : Bool). Plays 1 opens Lists (end_kind b) place n n z words g me.0 (then n))
       (sym (eq-eqb (invalid_bit n) 0 ok))
-      (plays_as opens (λ m'. (m'.1 ≡ []) × (EndsWith q.own end_step place n (found_of q n) me.0 m'.0
+      (plays_as 1 opens Lists (λ m'. (m'.1 ≡ []) × (EndsWith q.own end_step place n (found_of q n) me.0 m'.0
       × (log_of m'.0.order ≡ log_of g.order))) (then n)
       (plays_end z words g q b add pass is opens me.0 refl sizes end_step place q.own o refl (found_of q n) going
       (ends_right z words g q b add pass is place n refl going lt le at ok))
@@ -377,12 +378,12 @@ module _ (opens : Sizes → List ℕ) where
       (λ words g b add pass is sizes fits. let n : ℕ = get_or words place 0 in let o = walks_of z words g q b add pass is in
       let loaded = is_loaded z words g q b add pass is sizes place (inr (j, (0, (lt, omega arith, held, at)))) in
       let gathers = λ (never : invalid_bit n ≡ 0 → flag_bit n ≡ 0 → ⊥).
-      plays_as opens (λ m'. (m'.1 ≡ []) × Gathers j place n me.0 m'.0) (then n)
+      plays_as 1 opens Lists (λ m'. (m'.1 ≡ []) × Gathers j place n me.0 m'.0) (then n)
       (gathers_on z words g me.0 b add pass is sizes j place lt held at leads never)
       (λ w y. (y.0, record { gathers = y.1; anchors = λ ok plain. absurd (never ok plain) })) in
       dite (ℕ_discrete (invalid_bit n) 0)
       (λ ok. dite (ℕ_discrete (flag_bit n) 0)
-      (λ plain. plays_as opens (λ m'. (m'.1 ≡ []) × (MadeQuietStep load_step place n n (with_own (anchored q.own) q) me.0 m'.0
+      (λ plain. plays_as 1 opens Lists (λ m'. (m'.1 ≡ []) × (MadeQuietStep load_step place n n (with_own (anchored q.own) q) me.0 m'.0
       × (log_of m'.0.order ≡ log_of g.order))) (then n)
       (plays_own z words g q b add pass is opens me.0 refl sizes load_step place (anchored q.own) record {
         stands = o.stands;
@@ -424,14 +425,14 @@ module _ (opens : Sizes → List ℕ) where
       let loaded = is_loaded z words g q b add pass is sizes place (inr (j, (0, (lt, omega arith, on, at)))) in
       let gathers = λ (test : plain_test n ≡ false) (never : invalid_bit n ≡ 0 → flag_bit n ≡ 0 → ⊥).
       subst (λ (b : Bool). Plays 1 opens Lists (end_kind b) place n n z words g me.0 (then n)) (sym test)
-      (plays_as opens (λ m'. (m'.1 ≡ []) × Gathers j place n me.0 m'.0) (then n)
+      (plays_as 1 opens Lists (λ m'. (m'.1 ≡ []) × Gathers j place n me.0 m'.0) (then n)
       (gathers_on z words g me.0 b add pass is sizes j place lt on at leads never)
       (λ w y. (y.0, record { gathers = y.1; ended = λ ok plain. absurd (never ok plain) }))) in
       dite (ℕ_discrete (invalid_bit n) 0)
       (λ ok. dite (ℕ_discrete (flag_bit n) 0)
       (λ plain. subst (λ (b : Bool). Plays 1 opens Lists (end_kind b) place n n z words g me.0 (then n))
       (sym (both_true (eqb (invalid_bit n) 0) (eqb (flag_bit n) 0) (eq-eqb (invalid_bit n) 0 ok) (eq-eqb (flag_bit n) 0 plain)))
-      (plays_as opens (λ m'. (m'.1 ≡ []) × (EndsWith q.own end_step place n (found_of q n) me.0 m'.0
+      (plays_as 1 opens Lists (λ m'. (m'.1 ≡ []) × (EndsWith q.own end_step place n (found_of q n) me.0 m'.0
       × (log_of m'.0.order ≡ log_of g.order))) (then n)
       (plays_end z words g q b add pass is opens me.0 refl sizes end_step place q.own o refl (found_of q n) going
       (ends_right z words g q b add pass is place n refl going lt le at ok))

@@ -1,6 +1,6 @@
 -- What a step of a list's own tells of the order, and the two bits that it reads.
 use Rattle.std.proofs.Common.{◌≡◌, ℕ, ◌+◌, ◌*◌, List, [], ◌∷◌, ◌++◌}
-use Rattle.std.proofs.Common.{length, ap, ◌∙◌, subst, arith, append-nil, length-append}
+use Rattle.std.proofs.Common.{length, ap, ◌∙◌, arith, length-append}
 use Rattle.std.specs.Prelude.{◌/◌, ◌%◌}
 use Rattle.std.specs.Int.Bits.{bit_or, bit_and, or_add_and}
 use Rattle.std.proofs.lemmas.Nat.Bits.{and_pow}
@@ -13,7 +13,7 @@ use Rattle.pp_model.specs.History.{change_of}
 use Rattle.pp_model.specs.MapCalls.{placed}
 use Rattle.pp_rule.specs.Orders.{log_of, placed_by}
 use Rattle.pp_rule.specs.Steps.{alone}
-use Rattle.pp_rule.proofs.Histories.{log_snoc, placed_here}
+use Rattle.pp_rule.proofs.OwnSteps.{log_told, placed_told}
 use Rattle.pp_lists.specs.Lists.{ListPass, ListStep}
 use Rattle.pp_lists.specs.Turns.{ListView, change_at, placed_at}
 
@@ -29,27 +29,16 @@ or_same n flag = let both : bit_or n 1 + bit_and n 1 ≡ n + 1 = or_add_and n 1 
 -- the view of a pass after the step e, which is known as `known`
 module _ (order : List ListStep) (known : ListPass) (e : ListStep) (w : ListView) (at : w ≡ alone (order ++ e ∷ []) known)
     (pass : e.entry.pass ≡ known.number) where
-  -- the changes up to it
-  pub log_told : log_of w.order ≡ log_of order ++ e.entry.changes
-  log_told = ap (λ (v : ListView). log_of v.order) at ∙ log_snoc order e
-
-  pub log_quiet : e.entry.changes ≡ [] → log_of w.order ≡ log_of order
-  log_quiet none = log_told ∙ (ap (λ (cs : List Change). log_of order ++ cs) none ∙ append-nil (log_of order))
-
-  pub placed_told : placed_by w.known.number w.order ≡ placed_by known.number order ++ e.placed
-  placed_told = ap (λ (v : ListView). placed_by v.known.number v.order) at
-      ∙ subst (λ (n : ℕ). placed_by n (order ++ e ∷ []) ≡ placed_by n order ++ e.placed) pass (placed_here order e)
-
   -- the change and the call that were placed there
   pub change_told : (call : Call) (s : Placed) → e.placed ≡ s ∷ []
       → change_at call w ≡ change_of known.number (length (placed_by known.number order) + 1) call
   change_told call s one = ap (λ (n : ℕ). change_of n (length (placed_by w.known.number w.order)) call)
       (ap (λ (v : ListView). v.known.number) at)
       ∙ ap (λ (n : ℕ). change_of known.number n call) (ap (λ (l : List Placed). length l)
-      (placed_told ∙ ap (λ (l : List Placed). placed_by known.number order ++ l) one)
+      (placed_told order known e w at pass ∙ ap (λ (l : List Placed). placed_by known.number order ++ l) one)
       ∙ length-append (placed_by known.number order) (s ∷ []))
 
   pub place_told : (call : Call) (r : Reply) (c : Change) → e.entry.changes ≡ c ∷ []
       → placed_at call r w ≡ placed call r (length (log_of order) + 1)
   place_told call r c one = ap (λ (n : ℕ). placed call r n) (ap (λ (l : List Change). length l)
-      (log_told ∙ ap (λ (l : List Change). log_of order ++ l) one) ∙ length-append (log_of order) (c ∷ []))
+      (log_told order known e w at pass ∙ ap (λ (l : List Change). log_of order ++ l) one) ∙ length-append (log_of order) (c ∷ []))

@@ -11,22 +11,22 @@ use Rattle.pp_link.specs.Places.{IsNumber}
 use Rattle.pp_link.specs.Words.{cell_word}
 use Rattle.pp_model.specs.Lists.{AtEach}
 use Rattle.pp_rule.specs.declared.views.WalkSlot.{WalkSlot}
-use Rattle.pp_rule.specs.declared.views.PassState.{PassState}
 use Rattle.pp_rule.specs.Lists.{IsIn}
 use Rattle.pp_rule.specs.Orders.{log_of, placed_by, IsQuietStep}
 use Rattle.pp_rule.specs.Views.{slot, halves, value_of}
 use Rattle.pp_rule.specs.States.{RecordState, attached, in_hand, PoolState, IsUsed, IsLinked, Stays}
 use Rattle.pp_rule.specs.Rule.{Base}
-use Rattle.pp_rule.specs.Looks.{SameSeen, LooksSame, SameOwn, HoldsOn, Clears, Cleared, Invalidates}
-use Rattle.pp_rule.proofs.Put.{put, put_each, in_nil, in_one, in_either}
+use Rattle.pp_rule.specs.Looks.{SameSeen, LooksSame, SameOwn, Clears, Cleared, Invalidates}
+use Rattle.pp_rule.proofs.Put.{put, put_each}
 use Rattle.pp_rule.proofs.Histories.{log_snoc, quiet_log, quiet_placed, placed_else}
 use Rattle.pp_rule.proofs.Stepping.{after_step}
 use Rattle.pp_queues.specs.declared.calls.QueueChange.{QueueChange}
 use Rattle.pp_queues.specs.declared.calls.QueuePlaced.{QueuePlaced}
 use Rattle.pp_queues.specs.declared.own.QueueOwn.{QueueOwn}
 use Rattle.pp_queues.specs.Queue.{queue, items_of, IsSound}
+use Rattle.pp_rule.proofs.OwnSteps.{HoldsStill, any_word, still_held, own_more, own_quiet}
 use Rattle.pp_queues.specs.Lines.{Heap, heap, Lined, Stood, Sole, Still, Steady, Alike}
-use Rattle.pp_queues.specs.Queues.{QueuePass, QueueState, QueueStep, Calls, Queues, IsOwnStep, queue_forget}
+use Rattle.pp_queues.specs.Queues.{QueuePass, QueueState, QueueStep, Calls, Queues, queue_forget}
 use Rattle.pp_model.proofs.Logs.{stands_grown}
 use Rattle.pp_queues.proofs.Lining.{lined_alike, steady_alike, still_alike}
 
@@ -81,14 +81,6 @@ module _ {E A W : Type 0} (z : Sizes) (words words' : List ℕ) (g g' : PoolStat
 
       some : (now : ℕ) → invalid_bit now ≡ 1 → now ≢ 0
       some now one e = omega arith
-
--- these words hold what they held
-pub record HoldsStill (ok : ℕ → Type 0) (w w' : ℕ → WalkSlot) : Type 0 where
-  pub held : (i : ℕ) → i < 5 → ok i → (w i).held ≡ true → (w' i).held ≡ true
-  pub named : (i : ℕ) → i < 5 → ok i → (w i).held ≡ true → (w' i).named ≡ (w i).named
-
-abbrev pub any_word : ℕ → Type 0
-any_word i = Unit {0}
 
 -- each held record has a number and is used
 abbrev pub SeenHeld : Sizes → Heap → (ℕ → WalkSlot) → Type 0
@@ -147,23 +139,6 @@ pub seen_held : {E A W : Type 0} (z : Sizes) (words : List ℕ) (g : PoolState E
     → SeenHeld z (heap z words g.status) (slot (g.of p))
 seen_held z words g b p lt i li held = let h = b.hazards.held p i lt li held in (h.number, h.used)
 
-pub still_held : {W : Type 0} (q q' : PassState W) → HoldsOn q q' → HoldsStill any_word (slot q) (slot q')
-still_held q q' h = record { held = λ i lt _ y. (h.each i lt y).held; named = λ i lt _ y. (h.each i lt y).named }
-
--- one step more, whose changes are those of its pass
-pub own_more : (order : List QueueStep) (s : QueueStep) → ((m : QueueStep) → IsIn m order → IsOwnStep m) → IsOwnStep s
-    → (m : QueueStep) → IsIn m (order ++ s ∷ []) → IsOwnStep m
-own_more order s all own m i = ⊎_elim (all m)
-    (λ (last : IsIn m (s ∷ [])). subst IsOwnStep (in_one m s last) own) (in_either m order (s ∷ []) i)
-
-pub own_none : (s : QueueStep) → s.entry.changes ≡ [] → IsOwnStep s
-own_none s none c i = absurd (in_nil c (subst (λ (cs : List QueueChange). IsIn c cs) none i))
-
-own_quiet : (order order' : List QueueStep) → IsQuietStep order order' → ((m : QueueStep) → IsIn m order → IsOwnStep m)
-    → (m : QueueStep) → IsIn m order' → IsOwnStep m
-own_quiet order order' q all m i = own_more order q.step all (own_none q.step q.no_change) m
-    (subst (λ (l : List QueueStep). IsIn m l) q.is i)
-
 module _ (z : Sizes) (words words' : List ℕ) (g g' : QueueState) (b : Base 1 z words g) (b' : Base 1 z words' g') where
   -- a pass that is as it was, but for what it holds more
   pub kept_pass : (log : List QueueChange) → (z.heads ≡ 2 → Steady z (heap z words g.status) (heap z words' g'.status)
@@ -194,7 +169,7 @@ module _ (z : Sizes) (words words' : List ℕ) (g g' : QueueState) (b : Base 1 z
   queues_quiet l quiet lined each = let t' : Heap = heap z words' g'.status in
       let log : log_of g'.order ≡ log_of g.order = quiet_log g.order g'.order quiet in record {
         sound = subst IsSound (sym log) l.sound;
-        own_changes = own_quiet g.order g'.order quiet l.own_changes;
+        own_changes = own_quiet (λ (c : QueueChange). c.caller) g.order g'.order quiet l.own_changes;
         at = l.at;
         lined = subst (λ (log : List QueueChange). Lined z t' l.at (items_of log)) (sym log) lined;
         each = λ p lt. subst (λ (log : List QueueChange). Calls z t' log p (slot (g'.of p)) (g'.of p).own (placed_by p g'.order))
@@ -307,7 +282,7 @@ module _ (z : Sizes) (words words' : List ℕ) (g : QueueState) (q q' : QueuePas
       let cs : List QueueChange = e.entry.changes in
       let now : log_of (g.order ++ e ∷ []) ≡ log ++ cs = log_snoc g.order e in record {
         sound = subst IsSound (sym now) sound;
-        own_changes = own_more g.order e l.own_changes (λ d i. caller d i ∙ sym own_pass);
+        own_changes = own_more (λ (c : QueueChange). c.caller) g.order e l.own_changes (λ d i. caller d i ∙ sym own_pass);
         at = at';
         lined = subst (λ (log : List QueueChange). Lined z t' at' (items_of log)) (sym now) lined;
         each = λ p lt. subst (λ (log : List QueueChange). Calls z t' log p (slot (put g.of q'.number q' p))

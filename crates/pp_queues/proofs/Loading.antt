@@ -1,5 +1,5 @@
 -- The loads of the calls on a queue: that the rule allows them, with what they tell.
-use Rattle.std.proofs.Common.{◌≡◌, ◌≢◌, inl, inr, ⊎_elim, ℕ, zero, suc, ◌+◌, ◌*◌, ◌-◌, ◌<◌, ◌≤◌, Bool, true, false}
+use Rattle.std.proofs.Common.{◌≡◌, ◌≢◌, inl, inr, ⊎_elim, ℕ, ◌+◌, ◌*◌, ◌-◌, ◌<◌, ◌≤◌, Bool, true, false}
 use Rattle.std.proofs.Common.{cond, eqb}
 use Rattle.std.proofs.Common.{List, [], ◌∷◌, ◌++◌, length, get_or, sym, refl, ap, ◌∙◌, subst, arith, append-nil}
 use Rattle.std.proofs.Common.{eq-eqb, ne_eqb}
@@ -42,8 +42,8 @@ use Rattle.pp_queues.specs.Turns.{IsEnd, Begins, Ends, end_number, standing, Cam
 use Rattle.pp_queues.specs.Turns.{Saw, Looked, Settled, Tried}
 use Rattle.pp_model.proofs.Logs.{fits_within, stands_unchanged, after_all}
 use Rattle.pp_queues.proofs.Lining.{not_before_own, none_behind, nowhere_plain, leads_to, times_once}
-use Rattle.pp_queues.proofs.Keeping.{own_more, own_none, stood_nowhere, queues_alike}
-use Rattle.pp_queues.proofs.Telling.{log_quiet}
+use Rattle.pp_rule.proofs.OwnSteps.{own_more, own_none, log_quiet, plays_as, least_from}
+use Rattle.pp_queues.proofs.Keeping.{stood_nowhere, queues_alike}
 
 pub alike : KeptAlike 1 Queues
 alike z words words' g g' b b' same add = queues_alike z words words' g g' b b' same add
@@ -70,7 +70,7 @@ queues_own z words g q q' e l told pass number own = let log : List QueueChange 
     let mine : placed_by q.number (g.order ++ e ∷ []) ≡ placed_by q.number g.order ++ e.placed =
     subst (λ (n : ℕ). placed_by n (g.order ++ e ∷ []) ≡ placed_by n g.order ++ e.placed) pass (placed_here g.order e) in record {
       sound = subst IsSound (sym now) l.sound;
-      own_changes = own_more g.order e l.own_changes (own_none e told);
+      own_changes = own_more (λ (c : QueueChange). c.caller) g.order e l.own_changes (own_none (λ (c : QueueChange). c.caller) e told);
       at = l.at;
       lined = subst (λ (log : List QueueChange). Lined z t l.at (items_of log)) (sym now) l.lined;
       each = λ p lt. subst (λ (log : List QueueChange). Calls z t log p (slot (put g.of q'.number q' p))
@@ -89,17 +89,6 @@ same_own_base own q = record {
   rest = record { number = refl; sizes = refl; retired_are = refl; walk = refl; frontier = refl; chains = refl; scan = refl };
   owned = refl;
 }
-
--- the least number from s on with the property
-least_from : (P : ℕ → Type 0) → ((n : ℕ) → Dec (P n)) → (start d s : ℕ) → start ≤ s → P (s + d)
-    → ((q : ℕ) → start ≤ q → q < s → P q → ⊥)
-    → (p : ℕ) × (start ≤ p) × (p ≤ s + d) × P p × ((q : ℕ) → start ≤ q → q < p → P q → ⊥)
-least_from P dec start zero s le h none = let e : s + 0 ≡ s = omega arith in (s, le, omega arith, subst P e h, none)
-least_from P dec start (suc d) s le h none = dite (dec s) (λ y. (s, le, omega arith, y, none))
-    (λ n. let e : s + suc d ≡ (s + 1) + d = omega arith in
-    let r = least_from P dec start d (s + 1) (omega arith) (subst P e h)
-    (λ q lo hi y. dite (ℕ_discrete q s) (λ same. n (subst P same y)) (λ ne. none q lo (omega arith) y)) in
-    let hi = r.2 in (r.0, r.1, omega arith, r.3, r.4))
 
 -- whether a take is answered Empty
 is_empty : (items : List ℕ) → Dec (reply items call.Take ≡ said.Empty)
@@ -223,20 +212,6 @@ module _ (z : Sizes) (words : List ℕ) (g : QueueState) (q : QueuePass) (b : Ba
         }
 
 module _ (opens : Sizes → List ℕ) where
-  -- what a step tells may be told by other words
-  pub plays_as : {kind place word left : ℕ} {z : Sizes} {words : List ℕ} {g : QueueState} {v : QueueView}
-      (then then' : Me Unit QueueView → Type 0)
-      → Plays 1 opens Queues kind place word left z words g v then → ((w : QueueView) → then (w, []) → then' (w, []))
-      → Plays 1 opens Queues kind place word left z words g v then'
-  plays_as then then' p f = record {
-    known = p.known;
-    status = p.status;
-    changes = p.changes;
-    placed = p.placed;
-    keeps_rule = p.keeps_rule;
-    tells = λ w at made. f w (p.tells w at made);
-  }
-
   -- where a head leads
   head_leads : (z : Sizes) (words : List ℕ) (g : QueueState) → Queues z words g → z.heads ≡ 2 → (front : Bool) (place : ℕ)
       → place ≡ head_place z (end_number front) → (i : ℕ) × ((get_or words place 0 ≡ 16 * i)
@@ -291,7 +266,7 @@ module _ (opens : Sizes → List ℕ) where
       (λ n _. refl) (λ n bad. absurd (false≢true bad)) (λ n _. refl)
       (λ words g b add pass is sizes fits. let n : ℕ = get_or words place 0 in let log : List QueueChange = log_of g.order in
       let o = calls_of z words g q b add pass is in let own : QueueOwn = beginning (length log) q.own in
-      plays_as (λ m'. (m'.1 ≡ []) × (MadeQuietStep load_step place n n (with_own own q) me.0 m'.0 ×
+      plays_as 1 opens Queues (λ m'. (m'.1 ≡ []) × (MadeQuietStep load_step place n n (with_own own q) me.0 m'.0 ×
       (log_of m'.0.order ≡ log_of g.order)))
       (λ m'. (m'.1 ≡ []) × Begins place n me.0 m'.0)
       (plays_own z words g q b add pass is opens me.0 refl sizes load_step place own
@@ -439,7 +414,7 @@ module _ (opens : Sizes → List ℕ) where
         keeps_rule = idle_keeps 1 opens Queues alike load_step place z words g q b add pass is sizes;
         tells = λ v _ made. (refl, record { end = end; here = λ _. made; elsewhere = λ ne. absurd (ne hit) });
       })
-      (λ ne. plays_as (λ m'. (m'.1 ≡ []) × (MadeQuietStep load_step place n n (with_own (passed q.own) q) me.0 m'.0
+      (λ ne. plays_as 1 opens Queues (λ m'. (m'.1 ≡ []) × (MadeQuietStep load_step place n n (with_own (passed q.own) q) me.0 m'.0
       × (log_of m'.0.order ≡ log_of g.order))) (λ m'. (m'.1 ≡ []) × Saw place n me.0 m'.0)
       (plays_own z words g q b add pass is opens me.0 refl sizes load_step place (passed q.own)
       (calls_with z words g q b add pass is (passed q.own) refl refl (λ _. let st = o.stood two in record {
@@ -488,7 +463,7 @@ module _ (opens : Sizes → List ℕ) where
       (λ n _. refl) (λ n bad. absurd (false≢true bad)) (λ n _. refl)
       (λ words g b add pass is sizes fits. let n : ℕ = get_or words place 0 in
       let loaded = is_loaded z words g q b add pass is sizes place (inr (q.own.at, (0, (lt, omega arith, held, at)))) in
-      plays_as (λ m'. (m'.1 ≡ []) × (MadeQuietStep load_step place n n (with_own (leading (target n) q.own) q) me.0 m'.0
+      plays_as 1 opens Queues (λ m'. (m'.1 ≡ []) × (MadeQuietStep load_step place n n (with_own (leading (target n) q.own) q) me.0 m'.0
       × (log_of m'.0.order ≡ log_of g.order))) (λ m'. (m'.1 ≡ []) × Looked place n me.0 m'.0)
       (looks_at z words g me.0 b add pass is sizes two place at)
       (λ w y. (y.0, record { loaded = loaded; plain = plain_at z words g q b add pass is lt held place at; made = y.1.0 })))
@@ -517,13 +492,13 @@ module _ (opens : Sizes → List ℕ) where
       (let h = held_of z words g q b add pass is q.own.at lt held in
       let link : cell_word words z (stand q) 2 ≡ 0 = sym (link_at z words (stand q) place at) ∙ nil in
       let on : g.status (stand q) ≡ attached = add.lined.ended (stand q) h.number h.used (ap target link) in
-      plays_as (λ m'. (m'.1 ≡ []) × Settled place n me.0 m'.0) (then n)
+      plays_as 1 opens Queues (λ m'. (m'.1 ≡ []) × Settled place n me.0 m'.0) (then n)
       (plays_settled z words g q b add pass is opens me.0 refl sizes place going
       (none_behind z (heap z words g.status) add.at (items_of (log_of g.order)) add.lined (stand q)
       ((o.stood two).front lt fr on) link))
       (λ w y. (y.0, record { loaded = loaded; plain = λ _. nil; some = λ ne. absurd (ne nil); none = λ _. y.1 }))))
       (λ ne. subst (λ (b : Bool). Plays 1 opens Queues (try_kind b) place n n z words g me.0 (then n)) (sym (ne_eqb n 0 ne))
-      (plays_as (λ m'. (m'.1 ≡ []) × (MadeQuietStep load_step place n n (with_own (leading (target n) q.own) q) me.0 m'.0
+      (plays_as 1 opens Queues (λ m'. (m'.1 ≡ []) × (MadeQuietStep load_step place n n (with_own (leading (target n) q.own) q) me.0 m'.0
       × (log_of m'.0.order ≡ log_of g.order))) (then n) (looks_at z words g me.0 b add pass is sizes two place at)
       (λ w y. (
         y.0,

@@ -31,7 +31,8 @@ use Rattle.pp_queues.specs.Lines.{Heap, heap, Lined, Stood, Steady, Moved}
 use Rattle.pp_queues.specs.Queues.{QueuePass, QueueState, QueueStep, QueueView, Calls, Queues}
 use Rattle.pp_queues.specs.Turns.{advance_step, with_own, caught_up, stand, MayAdvance, Advanced}
 use Rattle.pp_queues.proofs.Lining.{moved_last, lined_moved, steady_moved, moved_to_end, leads_to}
-use Rattle.pp_queues.proofs.Keeping.{stood_on, any_word, queues_changed}
+use Rattle.pp_rule.proofs.OwnSteps.{any_word}
+use Rattle.pp_queues.proofs.Keeping.{stood_on, queues_changed}
 use Rattle.pp_queues.proofs.Loading.{alike, calls_of, held_of, head_at, same_own_base}
 
 -- the word of a head may be exchanged

@@ -1,8 +1,8 @@
 -- What a step of a queue's own tells of the order.
-use Rattle.std.proofs.Common.{◌≡◌, ℕ, ◌+◌, List, [], ◌∷◌, ◌++◌, length, ap, ◌∙◌, subst, append-nil, length-append}
+use Rattle.std.proofs.Common.{◌≡◌, ℕ, ◌+◌, List, [], ◌∷◌, ◌++◌, length, ap, ◌∙◌, length-append}
 use Rattle.pp_rule.specs.Orders.{log_of, placed_by}
 use Rattle.pp_rule.specs.Steps.{alone}
-use Rattle.pp_rule.proofs.Histories.{log_snoc, placed_here}
+use Rattle.pp_rule.proofs.OwnSteps.{log_told, placed_told}
 use Rattle.pp_queues.specs.declared.calls.QueueCall.{QueueCall}
 use Rattle.pp_queues.specs.declared.calls.QueueReply.{QueueReply}
 use Rattle.pp_queues.specs.declared.calls.QueueChange.{QueueChange}
@@ -14,27 +14,16 @@ use Rattle.pp_queues.specs.Turns.{change_at, placed_at}
 -- the view of a pass after the step e, which is known as `known`
 module _ (order : List QueueStep) (known : QueuePass) (e : QueueStep) (w : QueueView) (at : w ≡ alone (order ++ e ∷ []) known)
     (pass : e.entry.pass ≡ known.number) where
-  -- the changes up to it
-  pub log_told : log_of w.order ≡ log_of order ++ e.entry.changes
-  log_told = ap (λ (v : QueueView). log_of v.order) at ∙ log_snoc order e
-
-  pub log_quiet : e.entry.changes ≡ [] → log_of w.order ≡ log_of order
-  log_quiet none = log_told ∙ (ap (λ (cs : List QueueChange). log_of order ++ cs) none ∙ append-nil (log_of order))
-
-  pub placed_told : placed_by w.known.number w.order ≡ placed_by known.number order ++ e.placed
-  placed_told = ap (λ (v : QueueView). placed_by v.known.number v.order) at
-      ∙ subst (λ (n : ℕ). placed_by n (order ++ e ∷ []) ≡ placed_by n order ++ e.placed) pass (placed_here order e)
-
   -- the change and the call that were placed there
   pub change_told : (call : QueueCall) (s : QueuePlaced) → e.placed ≡ s ∷ []
       → change_at call w ≡ change_of known.number (length (placed_by known.number order) + 1) call
   change_told call s one = ap (λ (n : ℕ). change_of n (length (placed_by w.known.number w.order)) call) (ap
       (λ (v : QueueView). v.known.number) at)
       ∙ ap (λ (n : ℕ). change_of known.number n call) (ap (λ (l : List QueuePlaced). length l)
-      (placed_told ∙ ap (λ (l : List QueuePlaced). placed_by known.number order ++ l) one)
+      (placed_told order known e w at pass ∙ ap (λ (l : List QueuePlaced). placed_by known.number order ++ l) one)
       ∙ length-append (placed_by known.number order) (s ∷ []))
 
   pub place_told : (call : QueueCall) (r : QueueReply) (c : QueueChange) → e.entry.changes ≡ c ∷ []
       → placed_at call r w ≡ placed call r (length (log_of order) + 1)
   place_told call r c one = ap (λ (n : ℕ). placed call r n) (ap (λ (l : List QueueChange). length l)
-      (log_told ∙ ap (λ (l : List QueueChange). log_of order ++ l) one) ∙ length-append (log_of order) (c ∷ []))
+      (log_told order known e w at pass ∙ ap (λ (l : List QueueChange). log_of order ++ l) one) ∙ length-append (log_of order) (c ∷ []))

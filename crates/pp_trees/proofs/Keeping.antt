@@ -1,5 +1,5 @@
 -- The laws of a shape that speak of steps which it can't see, of clearing a walk word, and of INVALID.
-use Rattle.std.proofs.Common.{◌≡◌, ⊎_elim, ℕ, ◌<◌, Bool, true, cond, List, [], ◌∷◌, ◌++◌, length}
+use Rattle.std.proofs.Common.{◌≡◌, ℕ, ◌<◌, Bool, true, cond, List, [], length}
 use Rattle.std.proofs.Common.{refl, sym, ap, ◌∙◌, subst, arith, eq-eqb, ne_eqb}
 use Rattle.std.specs.Prelude.{slice_get}
 use Rattle.std.proofs.Math.Decide.{ℕ_discrete}
@@ -8,11 +8,8 @@ use Rattle.pp_link.specs.declared.layout.Sizes.{Sizes}
 use Rattle.pp_model.specs.declared.Change.{Change}
 use Rattle.pp_model.specs.declared.Placed.{Placed}
 use Rattle.pp_model.specs.History.{after, contents_of, Sound, Stands}
-use Rattle.pp_rule.specs.Alone.{IsOwnStep, HasOwnChanges}
-use Rattle.pp_rule.specs.Lists.{IsIn}
+use Rattle.pp_rule.specs.Alone.{HasOwnChanges}
 use Rattle.pp_rule.specs.Orders.{log_of, placed_by, IsQuietStep}
-use Rattle.pp_rule.specs.declared.views.LoggedStep.{LoggedStep}
-use Rattle.pp_rule.proofs.Put.{in_nil, in_one, in_either}
 use Rattle.pp_rule.specs.declared.views.WalkSlot.{WalkSlot}
 use Rattle.pp_rule.specs.Views.{slot}
 use Rattle.pp_rule.specs.States.{IsUsed}
@@ -20,6 +17,7 @@ use Rattle.pp_rule.specs.Rule.{Base}
 use Rattle.pp_rule.specs.Looks.{StillHeld, SameOwn, Clears}
 use Rattle.pp_rule.specs.Laws.{KeptAlike, KeptCleared, KeptInvalid}
 use Rattle.pp_rule.proofs.Histories.{quiet_log, quiet_placed}
+use Rattle.pp_rule.proofs.OwnSteps.{own_quiet}
 use Rattle.pp_trees.specs.declared.own.TreeOwn.{TreeOwn}
 use Rattle.pp_trees.specs.Trees.{Heap, heap, SearchTree, Mapped, Fewer}
 use Rattle.pp_trees.specs.Searches.{TreePass, TreeState, Seated, Trees, forget_word, caller_of}
@@ -96,20 +94,6 @@ in_use z words words' g g' b b' p low j lt held still = let h = b.hazards.held p
     let h' = b'.hazards.held p j low lt still.held in
     record { number = h.number; used = h.used; used' = subst (λ (n : ℕ). IsUsed (g'.status n)) still.named h'.used }
 
--- the changes of one more step are those of its pass
-pub own_more : (order : List (LoggedStep Change Placed)) (s : LoggedStep Change Placed) → ((m : LoggedStep Change Placed)
-    → IsIn m order → IsOwnStep caller_of m)
-    → IsOwnStep caller_of s → (m : LoggedStep Change Placed) → IsIn m (order ++ s ∷ []) → IsOwnStep caller_of m
-own_more order s all own m i = ⊎_elim (all m) (λ (last : IsIn m (s ∷ [])). subst (IsOwnStep caller_of) (in_one m s last) own)
-    (in_either m order (s ∷ []) i)
-
-pub own_quiet : (order order' : List (LoggedStep Change Placed)) → IsQuietStep order order' → ((m : LoggedStep Change Placed)
-    → IsIn m order → IsOwnStep caller_of m)
-    → (m : LoggedStep Change Placed) → IsIn m order' → IsOwnStep caller_of m
-own_quiet order order' q all m i = own_more order q.step all (λ c at. absurd (in_nil c (subst (λ
-    (cs : List Change). IsIn c cs) q.no_change at))) m
-    (subst (λ (l : List (LoggedStep Change Placed)). IsIn m l) q.is i)
-
 pub trees_fewer : (z : Sizes) (words words' : List ℕ) (g g' : TreeState) → Base 2 z words g → Base 2 z words' g'
     → Fewer z (heap z words g.status) (heap z words' g'.status) → log_of g'.order ≡ log_of g.order → ((p : ℕ)
     → placed_by p g'.order ≡ placed_by p g.order)
@@ -126,7 +110,7 @@ trees_fewer z words words' g g' b b' fewer log placed still going quiet a = let 
     (mapped_fewer z t t' sane sane' a.tree fewer (contents_of (log_of g.order)) a.mapped) in
     record {
       sound = subst Sound (sym log) a.sound;
-      own_changes = own_quiet g.order g'.order quiet a.own_changes;
+      own_changes = own_quiet caller_of g.order g'.order quiet a.own_changes;
       tree = tree';
       mapped = map;
       remains = remains_fewer z t t' (λ p. (g.of p).own.left) (λ p. (g'.of p).own.left) sane sane' a.tree fewer (λ p low.

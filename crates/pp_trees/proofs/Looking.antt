@@ -30,6 +30,7 @@ use Rattle.pp_rule.specs.Ties.{Holds}
 use Rattle.pp_rule.proofs.Confirming as confirming
 use Rattle.pp_rule.proofs.Keeping.{idle_keeps, load_keeps}
 use Rattle.pp_rule.proofs.Stepping.{Plays, allows}
+use Rattle.pp_rule.proofs.OwnSteps.{log_quiet}
 use Rattle.pp_trees.specs.declared.own.TreeOwn.{TreeOwn}
 use Rattle.pp_trees.specs.Trees.{Heap, heap, IsEdge, IsRight, inf0}
 use Rattle.pp_trees.specs.Searches.{TreePass, TreeState, Seated, Trees}
@@ -41,7 +42,6 @@ use Rattle.pp_trees.specs.Seeks.{found_at, ended_pass, EndsGoing, EndsAt}
 use Rattle.pp_trees.proofs.Opens.{tree_freezes}
 use Rattle.pp_trees.proofs.Walking.{side_low}
 use Rattle.pp_trees.proofs.Keeping.{trees_alike}
-use Rattle.pp_trees.proofs.Telling.{log_quiet}
 use Rattle.pp_trees.proofs.Confirming as coming
 use Rattle.pp_trees.proofs.Settling as settling
 use Rattle.pp_trees.proofs.Allowing.{loads_small, stands_held}

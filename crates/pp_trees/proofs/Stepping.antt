@@ -21,12 +21,13 @@ use Rattle.pp_rule.specs.Lists.{IsIn}
 use Rattle.pp_rule.proofs.Put.{put_each, in_nil, in_cases}
 use Rattle.pp_rule.proofs.Stepping.{after_step}
 use Rattle.pp_rule.proofs.Histories.{log_snoc, placed_else}
+use Rattle.pp_rule.proofs.OwnSteps.{own_more}
 use Rattle.pp_trees.specs.Trees.{heap, HasChildren, HasNone, Internal, SearchTree, Mapped, Remains}
-use Rattle.pp_trees.specs.Searches.{TreePass, TreeState, Searches, Trees}
+use Rattle.pp_trees.specs.Searches.{TreePass, TreeState, Searches, Trees, caller_of}
 use Rattle.pp_trees.proofs.Standing.{Grown}
 use Rattle.pp_trees.proofs.Steady.{Lasting, seated_on}
 use Rattle.pp_trees.proofs.Heaps.{sane_of}
-use Rattle.pp_trees.proofs.Keeping.{in_use, own_more}
+use Rattle.pp_trees.proofs.Keeping.{in_use}
 
 -- what is true at each place of a list is true of what stands in it
 each_in : (P : Change → Type 0) (cs : List Change) → AtEach cs (λ k c. P c) → (c : Change) → IsIn c cs → P c
@@ -83,7 +84,7 @@ module _ (z : Sizes) (words words' : List ℕ) (g : TreeState) (q q' : TreePass)
       → Trees z words' g'
   trees_stepped b b' tr pass by callers sound tree map remains lasting own = record {
     sound = sound;
-    own_changes = own_more g.order s tr.own_changes (λ c i. each_in (λ c. c.caller ≡ q'.number) s.entry.changes callers c i
+    own_changes = own_more caller_of g.order s tr.own_changes (λ c i. each_in (λ c. c.caller ≡ q'.number) s.entry.changes callers c i
         ∙ sym by);
     tree = tree;
     mapped = map;

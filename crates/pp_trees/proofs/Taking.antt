@@ -21,11 +21,12 @@ use Rattle.pp_rule.specs.Detach.{IsFreeLink, Detaches, Detached}
 use Rattle.pp_rule.specs.Laws.{Chained, MayDetach, KeptDetached}
 use Rattle.pp_rule.proofs.Histories.{quiet_log, quiet_placed}
 use Rattle.pp_rule.proofs.Put.{in_nil, in_cases}
+use Rattle.pp_rule.proofs.OwnSteps.{own_quiet}
 use Rattle.pp_trees.specs.declared.own.TreeOwn.{TreeOwn}
 use Rattle.pp_trees.specs.Trees.{Heap, heap, across, HasChildren, HasNone, Internal, Leaf, Sane, SearchTree, Mapped, Cut, Spliced}
 use Rattle.pp_trees.specs.TaggedPaths.{Passed, Joined, Taken, MaySplice, own_links, leaf_links, path_records, path_links}
 use Rattle.pp_trees.specs.TaggedPaths.{path_chain}
-use Rattle.pp_trees.specs.Searches.{TreePass, TreeState, Seated, Trees, MaySpliceHere, tree_chain}
+use Rattle.pp_trees.specs.Searches.{TreePass, TreeState, Seated, Trees, MaySpliceHere, tree_chain, caller_of}
 use Rattle.pp_trees.proofs.Walking.{across_low, is_linked, child_on}
 use Rattle.pp_trees.proofs.Splicing.{tree_spliced, mapped_spliced}
 use Rattle.pp_trees.proofs.Cutting.{cut_of, int, leaf_of, flag_of, distinct_path}
@@ -35,7 +36,7 @@ use Rattle.pp_trees.proofs.Chains.{records_taken, taken_records, once_records, l
 use Rattle.pp_trees.proofs.Steady.{seated_on, lasting_spliced}
 use Rattle.pp_rule.proofs.Learnt.{never_learnt}
 use Rattle.pp_trees.proofs.Heaps.{sane_of, rewired_of}
-use Rattle.pp_trees.proofs.Keeping.{grown_same, stands_same, in_use, own_quiet}
+use Rattle.pp_trees.proofs.Keeping.{grown_same, stands_same, in_use}
 use Rattle.pp_trees.proofs.Remaining.{remains_spliced}
 
 mod_four : (w : ℕ) → w % 16 ≡ 0 → w % 4 ≡ 0
@@ -320,7 +321,7 @@ module _ (z : Sizes) (words : List ℕ) (g : TreeState) (q : TreePass) (place fi
         (log_of g.order)) tr.mapped) in
         record {
           sound = subst Sound (sym log) tr.sound;
-          own_changes = own_quiet g.order g'.order d.order tr.own_changes;
+          own_changes = own_quiet caller_of g.order g'.order d.order tr.own_changes;
           tree = tree';
           mapped = map;
           remains = remains_spliced z t t' a may.side new (Taken q.own.path) (λ p. (g.of p).own.left) (λ p.

@@ -1,6 +1,6 @@
 -- What a step of a tree's own tells of the order.
 use Rattle.std.proofs.Common.{◌≡◌, ℕ, ◌+◌, List, [], ◌∷◌, ◌++◌}
-use Rattle.std.proofs.Common.{length, ap, ◌∙◌, subst, append-nil, length-append}
+use Rattle.std.proofs.Common.{length, ap, ◌∙◌, length-append}
 use Rattle.pp_model.specs.declared.Call.{Call}
 use Rattle.pp_model.specs.declared.Reply.{Reply}
 use Rattle.pp_model.specs.declared.Change.{Change}
@@ -10,7 +10,7 @@ use Rattle.pp_model.specs.MapCalls.{placed}
 use Rattle.pp_rule.specs.declared.views.LoggedStep.{LoggedStep}
 use Rattle.pp_rule.specs.Orders.{log_of, placed_by}
 use Rattle.pp_rule.specs.Steps.{alone}
-use Rattle.pp_rule.proofs.Histories.{log_snoc, placed_here}
+use Rattle.pp_rule.proofs.OwnSteps.{log_told, placed_told}
 use Rattle.pp_trees.specs.Searches.{TreePass}
 use Rattle.pp_trees.specs.Edges.{TreeView, change_at, placed_at}
 
@@ -18,27 +18,16 @@ use Rattle.pp_trees.specs.Edges.{TreeView, change_at, placed_at}
 module _ (order : List (LoggedStep Change Placed)) (known : TreePass) (e : LoggedStep Change Placed) (w : TreeView)
     (at : w ≡ alone (order ++ e ∷ []) known)
     (pass : e.entry.pass ≡ known.number) where
-  -- the changes up to it
-  pub log_told : log_of w.order ≡ log_of order ++ e.entry.changes
-  log_told = ap (λ (v : TreeView). log_of v.order) at ∙ log_snoc order e
-
-  pub log_quiet : e.entry.changes ≡ [] → log_of w.order ≡ log_of order
-  log_quiet none = log_told ∙ (ap (λ (cs : List Change). log_of order ++ cs) none ∙ append-nil (log_of order))
-
-  pub placed_told : placed_by w.known.number w.order ≡ placed_by known.number order ++ e.placed
-  placed_told = ap (λ (v : TreeView). placed_by v.known.number v.order) at
-      ∙ subst (λ (n : ℕ). placed_by n (order ++ e ∷ []) ≡ placed_by n order ++ e.placed) pass (placed_here order e)
-
   -- the change and the call that were placed there
   pub change_told : (call : Call) (s : Placed) → e.placed ≡ s ∷ []
       → change_at call w ≡ change_of known.number (length (placed_by known.number order) + 1) call
   change_told call s one = ap (λ (n : ℕ). change_of n (length (placed_by w.known.number w.order)) call) (ap (λ
       (v : TreeView). v.known.number) at)
       ∙ ap (λ (n : ℕ). change_of known.number n call) (ap (λ (l : List Placed). length l)
-      (placed_told ∙ ap (λ (l : List Placed). placed_by known.number order ++ l) one)
+      (placed_told order known e w at pass ∙ ap (λ (l : List Placed). placed_by known.number order ++ l) one)
       ∙ length-append (placed_by known.number order) (s ∷ []))
 
   pub place_told : (call : Call) (r : Reply) (c : Change) → e.entry.changes ≡ c ∷ []
       → placed_at call r w ≡ placed call r (length (log_of order) + 1)
   place_told call r c one = ap (λ (n : ℕ). placed call r n) (ap (λ (l : List Change). length l)
-      (log_told ∙ ap (λ (l : List Change). log_of order ++ l) one) ∙ length-append (log_of order) (c ∷ []))
+      (log_told order known e w at pass ∙ ap (λ (l : List Change). log_of order ++ l) one) ∙ length-append (log_of order) (c ∷ []))
