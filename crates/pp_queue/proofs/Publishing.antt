@@ -1,19 +1,20 @@
 -- A put that took effect.
-use Rattle.std.proofs.Common.{◌≡◌, inl, inr, ℕ, zero, suc, ◌+◌, ◌*◌, ◌<◌, ◌≤◌, false, List, [], ◌∷◌, ◌++◌, map}
+use Rattle.std.proofs.Common.{◌≡◌, inl, inr, ℕ, ◌+◌, ◌*◌, ◌<◌, ◌≤◌, false, List, [], ◌∷◌, ◌++◌, map}
 use Rattle.std.proofs.Common.{length, refl, sym, ap, ◌∙◌, subst}
 use Rattle.std.proofs.Common.{arith, append_assoc, lt-ltb, length-append}
 use Rattle.std.proofs.Math.Decide.{ℕ_discrete}
 use mathlib.Core.Logic.{dite}
-use mathlib.Core.Option.{some, some-injective}
+use mathlib.Core.Option.{some}
 use lib.ListN.{get_elem?}
 use Rattle.pp_link.specs.declared.layout.Sizes.{Sizes}
 use Rattle.pp_link.specs.Places.{head_place}
 use Rattle.pp_model.specs.declared.steps.Step.{Step}
 use Rattle.pp_rule.specs.declared.views.PrivateRecord.{PrivateRecord}
-use Rattle.pp_rule.specs.Lists.{OnceBy, Once, times, remove_at}
+use Rattle.pp_rule.specs.Lists.{OnceBy, times, remove_at}
 use Rattle.pp_rule.specs.Rule.{number_of}
 use Rattle.pp_rule.specs.Orders.{log_of}
 use Rattle.pp_rule.proofs.Counting.{times_here}
+use Rattle.pp_rule.proofs.Times.{one_fewer, times_removed, times_once}
 use Rattle.pp_rule.proofs.Put.{in_first, in_left}
 use Rattle.pp_base.specs.declared.purse.Purse.{Purse}
 use Rattle.pp_base.specs.Passes.{owned_numbers}
@@ -23,35 +24,21 @@ use Rattle.pp_queues.specs.Queues.{QueuePass, QueueView}
 use Rattle.pp_queues.specs.Turns.{put_step, Advanced}
 use Rattle.pp_queues.specs.Calls.{TriedToMove}
 use Rattle.pp_queues.specs.Losses.{Tally, one_more, losing, striking, Ran}
-use Rattle.pp_queues.proofs.Closing.{times_of_once}
 use Rattle.pp_queues.proofs.Counting.{ran_one, ran_quiet, ran_both}
 use Rattle.pp_queue.specs.Steps.{LinkedAt}
 use Rattle.pp_queue.specs.Calling.{Struck, PutStruck, SameRest, SameLists, HasRecord}
 use Rattle.pp_queue.specs.Answers.{PutDone}
 use Rattle.pp_queues.specs.declared.calls.QueueCall.TheVariants as call
 use Rattle.pp_queues.specs.declared.calls.QueueReply.TheVariants as said
-use Rattle.pp_queue.proofs.Staying.{one_fewer, times_removed}
 use Rattle.std.proofs.Math.Bool.{false≢true}
 use Rattle.pp_rule.proofs.Made.{known_after}
-
--- what stands at an index of the numbers is the number of what stands there
-number_at : (ds : List PrivateRecord) (i n : ℕ) → get_elem? (map number_of ds) i ≡ some n
-    → (d : PrivateRecord) × ((get_elem? ds i ≡ some d) × (d.number ≡ n))
-number_at [] zero n e = cc
-number_at [] (suc i) n e = cc
-number_at (d ∷ ds) zero n e = (d, (refl, some-injective d.number n e))
-number_at (d ∷ ds) (suc i) n e = number_at ds i n e
-
-once_numbers : (ds : List PrivateRecord) → OnceBy number_of ds → Once (map number_of ds)
-once_numbers ds once i j n m at_i at_j same = let x = number_at ds i n at_i in let y = number_at ds j m at_j in
-    once i j x.0 y.0 x.1.0 y.1.0 (x.1.1 ∙ (same ∙ sym y.1.1))
 
 -- A record that was linked counts as published.
 pub published_linked : (q q' : QueuePass) (p p' : Purse) (n i : ℕ) (d : PrivateRecord) → OnceBy number_of q.owned
     → get_elem? q.owned i ≡ some d → d.number ≡ n → q'.owned ≡ remove_at i q.owned → p' ≡ p
     → length q.owned ≤ length p.free.items + p.taken → IsPublished q' p' n
 published_linked q q' p p' n i d once at number owned same counted =
-    let all : times n (owned_numbers q) ≤ 1 = times_of_once n (owned_numbers q) (once_numbers q.owned once) in
+    let all : times n (owned_numbers q) ≤ 1 = times_once n q.owned once in
     let removed = times_removed n q.owned i d at in
     let one = times_here n d.number (map number_of (remove_at i q.owned)) number in
     let now : times n (owned_numbers q') ≡ times n (map number_of (remove_at i q.owned)) =

@@ -17,7 +17,9 @@ use Rattle.pp_trees.specs.Sentinels.{has_mark}
 use Rattle.pp_trees.specs.Edges.{TreeView}
 use Rattle.pp_trees.specs.Seeks.{Begins, LooksAgain, ComesToRoot, Looks, ComesTo, found_at, Ended, EndsAt}
 use Rattle.pp_seek.specs.Trails.{SameRest}
-use Rattle.pp_edges.proofs.Staying.{TreeMe, StaysPass, stays, named_same}
+use Rattle.pp_base.proofs.Steady.{named_same}
+use Rattle.pp_base.proofs.Staying.{StaysPass, stays}
+use Rattle.pp_edges.proofs.Staying.{TreeMe}
 
 by_bool : {X : Type 0} (c : Bool) → (c ≡ false → X) → (c ≡ true → X) → X
 by_bool true a b = b refl

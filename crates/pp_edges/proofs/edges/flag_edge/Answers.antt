@@ -8,7 +8,8 @@ use Rattle.pp_trees.specs.Searches.{Trees}
 use Rattle.pp_trees.specs.Edges.{MayFlag, Flags}
 use Rattle.pp_trees.proofs.Allowing.{flags_edge}
 use Rattle.pp_edges.specs.Edging.{FlagsAt}
-use Rattle.pp_edges.proofs.Staying.{flags_stays, keeping_stays, same_stays}
+use Rattle.pp_base.proofs.Staying.{keeping_stays, same_stays}
+use Rattle.pp_edges.proofs.Staying.{flags_stays}
 use Rattle.pp_edges.proofs.edges.flag_edge.Goals as goal
 
 pub exchange_word-requires-clause-allows : goal.exchange_word-requires-clause-allows
@@ -42,7 +43,7 @@ exchange_word-requires-clause-allows c = let z = c.args.pool.now.layout in let m
 pub invariant_of-pass : goal.invariant_of-pass
 invariant_of-pass c = let pass = c.args.pass.now in let t = c.exchange_word.ensures.told in
     let seat = c.exchange_word.new.seat in record {
-      keeping = keeping_stays pass.seat seat _ _ _ _ _ pass.keeping t.1 (flags_stays t.0.0 _ _ _ _ _ t.0.1.made);
+      keeping = keeping_stays 5 2 pass.seat seat _ _ _ _ _ pass.keeping t.1 (flags_stays t.0.0 _ _ _ _ _ t.0.1.made);
       run = c.exchange_word.ensures.run;
     }
 

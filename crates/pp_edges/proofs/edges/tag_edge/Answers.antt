@@ -6,7 +6,8 @@ use Rattle.pp_base.proofs.Telling.{telling}
 use Rattle.pp_trees.specs.Searches.{Trees}
 use Rattle.pp_trees.specs.Edges.{MayTag, Tags}
 use Rattle.pp_trees.proofs.Allowing.{tags_edge}
-use Rattle.pp_edges.proofs.Staying.{tags_stays, keeping_stays, same_stays}
+use Rattle.pp_base.proofs.Staying.{keeping_stays, same_stays}
+use Rattle.pp_edges.proofs.Staying.{tags_stays}
 use Rattle.pp_edges.proofs.edges.tag_edge.Goals as goal
 
 pub set_bits-requires-clause-allows : goal.set_bits-requires-clause-allows
@@ -19,7 +20,7 @@ set_bits-requires-clause-allows c = let z = c.args.pool.now.layout in let me = c
 
 pub invariant_of-pass : goal.invariant_of-pass
 invariant_of-pass c = let pass = c.args.pass.now in let t = c.set_bits.ensures.told in let seat = c.set_bits.new.seat in record {
-  keeping = keeping_stays pass.seat seat _ _ _ _ _ pass.keeping t.1 (tags_stays t.0.0 _ _ _ t.0.1);
+  keeping = keeping_stays 5 2 pass.seat seat _ _ _ _ _ pass.keeping t.1 (tags_stays t.0.0 _ _ _ t.0.1);
   run = c.set_bits.ensures.run;
 }
 

@@ -5,7 +5,8 @@ use Rattle.pp_base.proofs.Telling.{telling}
 use Rattle.pp_queues.specs.Queues.{Queues}
 use Rattle.pp_queues.specs.Turns.{MayAdvance, Advanced}
 use Rattle.pp_queues.proofs.Moving.{advances}
-use Rattle.pp_queue.proofs.Staying.{advanced_stays, keeping_stays, same_stays}
+use Rattle.pp_base.proofs.Staying.{keeping_stays, same_stays}
+use Rattle.pp_queue.proofs.Staying.{advanced_stays}
 use Rattle.pp_queue.proofs.steps.advance.Goals as goal
 
 pub exchange_word-requires-clause-allows : goal.exchange_word-requires-clause-allows
@@ -21,7 +22,7 @@ exchange_word-requires-clause-allows c = let z = c.args.pool.now.layout in let m
 pub invariant_of-pass : goal.invariant_of-pass
 invariant_of-pass c = let pass = c.args.pass.now in let t = c.exchange_word.ensures.told in
     let seat = c.exchange_word.new.seat in record {
-      keeping = keeping_stays pass.seat seat _ _ _ _ _ pass.keeping t.1 (advanced_stays t.0.0 _ _ _ _ t.0.1);
+      keeping = keeping_stays 1 1 pass.seat seat _ _ _ _ _ pass.keeping t.1 (advanced_stays t.0.0 _ _ _ _ t.0.1);
       run = c.exchange_word.ensures.run;
     }
 

@@ -4,7 +4,8 @@ use Rattle.pp_base.proofs.Telling.{telling}
 use Rattle.pp_queues.specs.Queues.{Queues}
 use Rattle.pp_queues.specs.Turns.{Begins}
 use Rattle.pp_queues.proofs.Loading.{begins_take}
-use Rattle.pp_queue.proofs.Staying.{begins_stays, keeping_stays, same_stays}
+use Rattle.pp_base.proofs.Staying.{keeping_stays, same_stays}
+use Rattle.pp_queue.proofs.Staying.{begins_stays}
 use Rattle.pp_queue.proofs.steps.begin.Goals as goal
 
 pub load_word-requires-clause-allows : goal.load_word-requires-clause-allows
@@ -17,7 +18,7 @@ load_word-requires-clause-allows c = let z = c.args.pool.now.layout in let me = 
 pub invariant_of-pass : goal.invariant_of-pass
 invariant_of-pass c = let pass = c.args.pass.now in let t = c.load_word.ensures.told in let seat = c.load_word.new.seat in
     record {
-      keeping = keeping_stays pass.seat seat _ _ _ _ _ pass.keeping t.1 (begins_stays t.0.0 _ _ t.0.1);
+      keeping = keeping_stays 1 1 pass.seat seat _ _ _ _ _ pass.keeping t.1 (begins_stays t.0.0 _ _ t.0.1);
       run = c.load_word.ensures.run;
     }
 

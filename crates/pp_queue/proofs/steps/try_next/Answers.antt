@@ -6,7 +6,8 @@ use Rattle.pp_base.proofs.Telling.{telling}
 use Rattle.pp_queues.specs.Queues.{Queues}
 use Rattle.pp_queues.specs.Turns.{Tried}
 use Rattle.pp_queues.proofs.Loading.{tries}
-use Rattle.pp_queue.proofs.Staying.{tried_stays, keeping_stays, same_stays}
+use Rattle.pp_base.proofs.Staying.{keeping_stays, same_stays}
+use Rattle.pp_queue.proofs.Staying.{tried_stays}
 use Rattle.pp_queue.proofs.steps.try_next.Goals as goal
 
 pub load_word-requires-clause-allows : goal.load_word-requires-clause-allows
@@ -21,7 +22,7 @@ load_word-requires-clause-allows c = let z = c.args.pool.now.layout in let me = 
 pub invariant_of-pass : goal.invariant_of-pass
 invariant_of-pass c = let pass = c.args.pass.now in let t = c.load_word.ensures.told in let seat = c.load_word.new.seat in
     record {
-      keeping = keeping_stays pass.seat seat _ _ _ _ _ pass.keeping t.1 (tried_stays t.0.0 _ _ t.0.1);
+      keeping = keeping_stays 1 1 pass.seat seat _ _ _ _ _ pass.keeping t.1 (tried_stays t.0.0 _ _ t.0.1);
       run = c.load_word.ensures.run;
     }
 

@@ -2,7 +2,7 @@ use Rattle.std.proofs.Common.{◌≡◌, ℕ, [], refl, sym, subst}
 use Rattle.pp_base.specs.Sources.{side_number}
 use Rattle.pp_base.specs.Passes.{known, view}
 use Rattle.pp_base.proofs.Telling.{telling}
-use Rattle.pp_edges.proofs.Staying.{keeping_stays, same_stays}
+use Rattle.pp_base.proofs.Staying.{keeping_stays, same_stays}
 use Rattle.pp_trees.specs.Searches.{Trees}
 use Rattle.pp_trees.specs.Seeks.{ComesTo, MayCome}
 use Rattle.pp_trees.proofs.Looking.{comes_to}
@@ -23,7 +23,7 @@ pub invariant_of-pass : goal.invariant_of-pass
 invariant_of-pass c = let pass = c.args.pass.now in let t = c.load_word.ensures.told in let seat = c.load_word.new.seat in
     let n = c.load_word.result in
     let place = c.locate-place.result in let sd = side_number c.args.side in record {
-      keeping = keeping_stays pass.seat seat _ _ _ _ _ pass.keeping t.1
+      keeping = keeping_stays 5 2 pass.seat seat _ _ _ _ _ pass.keeping t.1
           (comes_stays t.0.0 c.args.next sd place c.args.first n c.requires.may.named t.0.1);
       run = c.load_word.ensures.run;
     }

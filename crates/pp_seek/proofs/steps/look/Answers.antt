@@ -4,7 +4,7 @@ use Rattle.pp_rule.specs.Views.{slot}
 use Rattle.pp_base.specs.Sources.{side_number}
 use Rattle.pp_base.specs.Passes.{known, view}
 use Rattle.pp_base.proofs.Telling.{telling}
-use Rattle.pp_edges.proofs.Staying.{keeping_stays, same_stays}
+use Rattle.pp_base.proofs.Staying.{keeping_stays, same_stays}
 use Rattle.pp_trees.specs.Searches.{Trees}
 use Rattle.pp_trees.specs.Seeks.{Looks}
 use Rattle.pp_trees.proofs.Looking.{looks_at}
@@ -26,7 +26,7 @@ pub invariant_of-pass : goal.invariant_of-pass
 invariant_of-pass c = let pass = c.args.pass.now in let t = c.load_word.ensures.told in let seat = c.load_word.new.seat in
     let n = c.load_word.result in
     let place = c.locate-place.result in let sd = side_number c.args.side in record {
-      keeping = keeping_stays pass.seat seat _ _ _ _ _ pass.keeping t.1 (looks_stays t.0.0 sd place n t.0.1);
+      keeping = keeping_stays 5 2 pass.seat seat _ _ _ _ _ pass.keeping t.1 (looks_stays t.0.0 sd place n t.0.1);
       run = c.load_word.ensures.run;
     }
 

@@ -1,7 +1,7 @@
 use Rattle.std.proofs.Common.{◌≡◌, ℕ, [], refl, subst}
 use Rattle.pp_base.specs.Passes.{known, view}
 use Rattle.pp_base.proofs.Telling.{telling}
-use Rattle.pp_edges.proofs.Staying.{keeping_stays, same_stays}
+use Rattle.pp_base.proofs.Staying.{keeping_stays, same_stays}
 use Rattle.pp_trees.specs.Searches.{Trees}
 use Rattle.pp_trees.specs.Seeks.{LooksAgain}
 use Rattle.pp_trees.proofs.Looking.{looks_again}
@@ -23,7 +23,7 @@ pub invariant_of-pass : goal.invariant_of-pass
 invariant_of-pass c = let pass = c.args.pass.now in let t = c.load_word.ensures.told in let seat = c.load_word.new.seat in
     let n = c.load_word.result in
     let place = c.head_word-place.result in record {
-      keeping = keeping_stays pass.seat seat _ _ _ _ _ pass.keeping t.1 (again_stays t.0.0 place n t.0.1);
+      keeping = keeping_stays 5 2 pass.seat seat _ _ _ _ _ pass.keeping t.1 (again_stays t.0.0 place n t.0.1);
       run = c.load_word.ensures.run;
     }
 
