@@ -1,5 +1,5 @@
 -- What a step leaves that changes no word and no state, but the list's own part of a pass.
-use Rattle.std.proofs.Common.{◌≡◌, ◌≢◌, inl, inr, ⊎_elim, ℕ, ◌+◌, ◌<◌, ◌≤◌, Bool, true, false, cond, nat_eq}
+use Rattle.std.proofs.Common.{◌≡◌, ◌≢◌, inl, inr, ⊎_elim, ℕ, ◌+◌, ◌<◌, ◌≤◌, Bool, true, false}
 use Rattle.std.proofs.Common.{List, [], ◌∷◌, ◌++◌, length, get_or, Option, Some, None, sym, refl, ap, ◌∙◌, subst, arith}
 use Rattle.std.proofs.Common.{append-nil}
 use Rattle.std.specs.Prelude.{◌-◌}
@@ -12,9 +12,7 @@ use Rattle.pp_link.specs.Places.{IsNumber, head_place, cell_place}
 use Rattle.pp_link.specs.Words.{head_word, cell_word}
 use Rattle.pp_model.specs.declared.Pair.{Pair}
 use Rattle.pp_model.specs.declared.Call.{Call}
-use Rattle.pp_model.specs.declared.Call.TheVariants.{Get, Insert, Remove, Cut}
 use Rattle.pp_model.specs.declared.Reply.{Reply}
-use Rattle.pp_model.specs.declared.Reply.TheVariants.{Absent, Took, Other}
 use Rattle.pp_model.specs.declared.Change.{Change}
 use Rattle.pp_model.specs.declared.Placed.{Placed}
 use Rattle.pp_model.specs.FiniteMap.{find}
@@ -23,13 +21,14 @@ use Rattle.pp_model.specs.History.{after, contents_of, Sound}
 use Rattle.pp_model.specs.MapCalls.{placed}
 use Rattle.pp_model.specs.History.{Stands}
 use Rattle.pp_model.proofs.Histories.{stands_unchanged, after_all}
+use Rattle.pp_model.proofs.Replies.{reply_once}
 use Rattle.pp_rule.specs.Lists.{IsIn}
 use Rattle.pp_rule.specs.Orders.{log_of, placed_by}
 use Rattle.pp_rule.specs.declared.views.Halves.{Halves}
 use Rattle.pp_rule.specs.Views.{slot, halves}
 use Rattle.pp_rule.specs.States.{RecordState, attached, in_hand, retired, owned, shelved, IsUsed, IsLinked, Keeps, Held}
 use Rattle.pp_rule.specs.Rule.{Base}
-use Rattle.pp_rule.specs.Steps.{entry, alone, MadeQuietStep, IsSource}
+use Rattle.pp_rule.specs.Steps.{entry, MadeQuietStep, IsSource}
 use Rattle.pp_rule.proofs.Put.{put, put_each}
 use Rattle.pp_rule.proofs.Histories.{log_snoc, placed_here, placed_else}
 use Rattle.pp_rule.proofs.Stepping.{after_step, Plays}
@@ -57,37 +56,6 @@ option_eq (Some v) (Some w) = go (ℕ_discrete v w)
     go : Dec (v ≡ w) → Dec (Some v ≡ Some w)
     go (yes e) = yes (ap Some e)
     go (no ne) = no (λ e. ne (cc))
-
-cut_some : (b : Bool) (w : ℕ) → cond b (Took w) (Other w) ≡ Absent → ⊥
-cut_some true w e = cc
-cut_some false w e = cc
-
-cut_same : (b : Bool) (w v : ℕ) → cond b (Took w) (Other w) ≡ Other v → Some w ≡ Some v
-cut_same true w v e = cc
-cut_same false w v e = ap Some (cc)
-
--- among replies that change nothing, different finds give different ones
-reply_once : (call : Call) (a o : Option ℕ) → changes (reply_at call a) ≡ false → reply_at call o ≡ reply_at call a → o ≡ a
-reply_once (Get k) None None c e = refl
-reply_once (Get k) None (Some w) c e = cc
-reply_once (Get k) (Some v) None c e = cc
-reply_once (Get k) (Some v) (Some w) c e = ap Some (cc)
-reply_once (Insert k x) None o c e = absurd (false≢true (sym c))
-reply_once (Insert k x) (Some v) None c e = cc
-reply_once (Insert k x) (Some v) (Some w) c e = ap Some (cc)
-reply_once (Remove k) None None c e = refl
-reply_once (Remove k) None (Some w) c e = cc
-reply_once (Remove k) (Some v) o c e = absurd (false≢true (sym c))
-reply_once (Cut k x) None None c e = refl
-reply_once (Cut k x) None (Some w) c e = absurd (cut_some (nat_eq w x) w e)
-reply_once (Cut k x) (Some v) o c e = cut_other (nat_eq v x) c o e
-  where
-    cut_other : (b : Bool) → changes (cond b (Took v) (Other v)) ≡ false → (o : Option ℕ)
-        → reply_at (Cut k x) o ≡ cond b (Took v) (Other v)
-        → o ≡ Some v
-    cut_other true c o e = absurd (false≢true (sym c))
-    cut_other false c None e = cc
-    cut_other false c (Some w) e = cut_same (nat_eq w x) w v e
 
 by_reply : {X : Type 0} (c : Bool) → (c ≡ false → X) → (c ≡ true → X) → X
 by_reply true a b = b refl

@@ -9,3 +9,4 @@ pub mod CallersOrder
 pub mod Closings
 pub mod Finding
 pub mod Growing
+pub mod Replies

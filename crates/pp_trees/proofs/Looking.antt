@@ -1,8 +1,7 @@
 -- The loads of a seek, as steps that the rule allows.
 use Rattle.std.proofs.Common.{◌≡◌, ◌≢◌, inr, ℕ, ◌+◌, ◌<◌, ◌≤◌, Bool, true, false, cond, eqb, List, [], ◌∷◌}
-use Rattle.std.proofs.Common.{◌++◌, length, get_or, set, Option, Some, None}
+use Rattle.std.proofs.Common.{◌++◌, length, get_or, set, Option}
 use Rattle.std.proofs.Common.{refl, sym, ap, ◌∙◌, subst, arith, eq-eqb, ne_eqb}
-use Rattle.std.specs.Prelude.{nat_eq}
 use Rattle.std.proofs.Math.Bool.{false≢true}
 use Rattle.std.proofs.Math.Decide.{ℕ_discrete}
 use mathlib.Core.Logic.{dite}
@@ -12,13 +11,12 @@ use Rattle.pp_link.specs.Links.{target, flag_bit, tag_bit}
 use Rattle.pp_link.specs.Places.{head_place, cell_place}
 use Rattle.pp_link.specs.Words.{head_word, cell_word}
 use Rattle.pp_model.specs.declared.Call.{Call}
-use Rattle.pp_model.specs.declared.Call.TheVariants.{Get, Insert, Remove, Cut}
-use Rattle.pp_model.specs.declared.Reply.TheVariants.{Took, Other, Absent}
 use Rattle.pp_model.specs.declared.Change.{Change}
 use Rattle.pp_model.specs.declared.Placed.{Placed}
 use Rattle.pp_model.specs.Calls.{key_of, reply_at, reply, changes}
 use Rattle.pp_model.specs.FiniteMap.{find}
 use Rattle.pp_model.specs.History.{after, Stands}
+use Rattle.pp_model.proofs.Replies.{reply_once}
 use Rattle.pp_rule.specs.Orders.{log_of, placed_by, load_step, confirm_step}
 use Rattle.pp_rule.specs.Rule.{Base}
 use Rattle.pp_rule.specs.declared.views.Halves.{Halves}
@@ -45,37 +43,6 @@ use Rattle.pp_trees.proofs.Keeping.{trees_alike}
 use Rattle.pp_trees.proofs.Confirming as coming
 use Rattle.pp_trees.proofs.Settling as settling
 use Rattle.pp_trees.proofs.Allowing.{loads_small, stands_held}
-
-cut_some : (b : Bool) (w : ℕ) → cond b (Took w) (Other w) ≡ Absent → ⊥
-cut_some true w e = cc
-cut_some false w e = cc
-
-cut_same : (b : Bool) (w v : ℕ) → cond b (Took w) (Other w) ≡ Other v → Some w ≡ Some v
-cut_same true w v e = cc
-cut_same false w v e = ap Some (cc)
-
--- among replies that change nothing, different finds give different ones
-reply_once : (call : Call) (a o : Option ℕ) → changes (reply_at call a) ≡ false → reply_at call o ≡ reply_at call a → o ≡ a
-reply_once (Get k) None None c e = refl
-reply_once (Get k) None (Some w) c e = cc
-reply_once (Get k) (Some v) None c e = cc
-reply_once (Get k) (Some v) (Some w) c e = ap Some (cc)
-reply_once (Insert k x) None o c e = absurd (false≢true (sym c))
-reply_once (Insert k x) (Some v) None c e = cc
-reply_once (Insert k x) (Some v) (Some w) c e = ap Some (cc)
-reply_once (Remove k) None None c e = refl
-reply_once (Remove k) None (Some w) c e = cc
-reply_once (Remove k) (Some v) o c e = absurd (false≢true (sym c))
-reply_once (Cut k x) None None c e = refl
-reply_once (Cut k x) None (Some w) c e = absurd (cut_some (nat_eq w x) w e)
-reply_once (Cut k x) (Some v) o c e = cut_other (nat_eq v x) c o e
-  where
-    cut_other : (b : Bool) → changes (cond b (Took v) (Other v)) ≡ false → (o : Option ℕ)
-        → reply_at (Cut k x) o ≡ cond b (Took v) (Other v)
-        → o ≡ Some v
-    cut_other true c o e = absurd (false≢true (sym c))
-    cut_other false c None e = cc
-    cut_other false c (Some w) e = cut_same (nat_eq w x) w v e
 
 -- What is true of the word at a place in each state that meets the rule is told by a step there.
 pub knowing : (opens : Sizes → List ℕ) (z : Sizes) (id place : ℕ) (me : Me Unit TreeView) (change : ℕ → ℕ) (then : ℕ
