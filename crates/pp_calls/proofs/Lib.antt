@@ -1,4 +1,5 @@
 pub mod Growing
+pub mod AnyObject
 pub mod Remaining
 pub mod Purses
 pub mod Striking

@@ -20,9 +20,10 @@ use Rattle.pp_calls.proofs.Growing.{stepped_none, stepped_one, stepped_both}
 use Rattle.pp_queues.specs.declared.calls.QueueCall.{QueueCall}
 use Rattle.pp_queues.specs.declared.calls.QueueChange.{QueueChange}
 use Rattle.pp_queues.specs.declared.calls.QueuePlaced.{QueuePlaced}
+use Rattle.pp_queues.specs.Queue.{queue}
 use Rattle.pp_queues.specs.Queues.{QueuePass, QueueStep, QueueView, HasOwn}
 use Rattle.pp_queues.specs.Turns.{put_step, advance_step, take_step, StandsThen}
-use Rattle.pp_queues.proofs.Remaining.{stands_one}
+use Rattle.pp_calls.proofs.AnyObject.{stands_one}
 use Rattle.pp_queues.specs.Losses.{Remembered, queue_strikes, queue_next, queue_loses, queue_reader, Tally, one_more}
 use Rattle.pp_queues.specs.Losses.{counting, tally, HasStruck, Ran}
 
@@ -61,7 +62,7 @@ unfoldable pub ran_quiet : (passes : ℕ) (t t' : Tally) {kind place word left :
     → MadeQuietStep kind place word left q v w → q.number ≡ v.known.number
     → counting passes t (record { kind = kind; place = place; word = word }) ≡ t' → Ran passes t t' v w
 ran_quiet passes t t' v w made number counted = ran_one passes t t' v w made number counted
-    (λ own stands. stands_one v w made number own stands)
+    (λ own stands. stands_one queue v w made number own stands)
 
 pub own_before : (v w : QueueView) → Stepped v w → HasOwn w.order → HasOwn v.order
 own_before v w s own x i = own x (subst (λ (o : List QueueStep). IsIn x o) (sym s.order.1) (in_left x v.order s.order.0 i))

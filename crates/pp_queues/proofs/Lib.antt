@@ -8,5 +8,4 @@ pub mod Putting
 pub mod Owning
 pub mod Taking
 pub mod Closing
-pub mod Remaining
 pub mod Counting
