@@ -1,3 +1,2 @@
-pub mod Reclaiming
 pub mod Stretches
 pub mod Purses

@@ -20,7 +20,7 @@ use Rattle.pp_shelf.specs.Runs.{MadeAtShelves, FoundEmpty, map_sizes, steps_made
 use Rattle.pp_shelf.specs.Shelves.{MovesFree}
 use Rattle.pp_purse.specs.Steps.{PurseSteps}
 use Rattle.pp_purse.specs.Purses.{KeepsTaken, ReclaimsMany, TidiesPurse, FindsFree, RanOut}
-use Rattle.pp_purse.proofs.Reclaiming.{turn_long, reclaim_is}
+use Rattle.pp_reclaim.proofs.Reclaimed.{turn_long, reclaim_is}
 use Rattle.pp_purse.proofs.Stretches.{none_made, purse_both, since_made, since_named, since_both, owned_made, flushed_purse}
 use Rattle.pp_purse.proofs.Stretches.{swept_purse, shelves_purse}
 

@@ -4,3 +4,4 @@ pub mod Staying
 pub mod Sweeping
 pub mod Resting
 pub mod Flushing
+pub mod Reclaimed
