@@ -10,7 +10,7 @@ use Rattle.pp_model.specs.declared.Change.{Change}
 use Rattle.pp_model.specs.declared.Placed.{Placed}
 use Rattle.pp_model.specs.History.{contents_of, Sound}
 use Rattle.pp_rule.specs.Lists.{IsIn}
-use Rattle.pp_rule.specs.Orders.{log_of, entries_of, placed_by}
+use Rattle.pp_rule.specs.Orders.{placed_by}
 use Rattle.pp_rule.specs.Views.{slot}
 use Rattle.pp_rule.specs.States.{RecordState, attached, owned, IsUsed}
 use Rattle.pp_rule.specs.Opening.{dealt}
@@ -19,6 +19,7 @@ use Rattle.pp_rule.specs.Laws.{Freezes, HeadsOpen, LinksOpen, MetAtOpening, Kept
 use Rattle.pp_rule.specs.Laws.{MayDetach, KeptDetached}
 use Rattle.pp_rule.proofs.Put.{in_nil}
 use Rattle.pp_rule.proofs.OpeningWords.{opening_head}
+use Rattle.pp_rule.proofs.OpeningOrder.{no_log, no_placed}
 use Rattle.pp_lists.specs.declared.own.ListOwn.{ListOwn}
 use Rattle.pp_lists.specs.Walks.{heap, Source, at_head, at_record, word_at, IsLive, bucket, bucket_at, Mapped, IsBareAt}
 use Rattle.pp_lists.specs.Lists.{ListPass, ListStep, Walks, Lists, list_frozen, list_forget, nobody, list_chain, MayUnlink}
@@ -44,14 +45,6 @@ list_links_open n side low high lt = absurd (omega arith)
 
 pub list_freezes : Freezes list_frozen
 list_freezes w e none = let one : flag_bit w ≡ 1 = eqb-true (flag_bit w) 1 e in omega arith
-
-no_log : (order : List ListStep) → order ≡ [] → log_of order ≡ []
-unfolding log_of entries_of
-no_log order e = ap log_of e
-
-no_placed : (p : ℕ) (order : List ListStep) → order ≡ [] → placed_by p order ≡ []
-unfolding placed_by
-no_placed p order e = ap (placed_by p) e
 
 fresh_own : (z : Sizes) (p : ℕ) → (dealt 0 nobody z p).own ≡ nobody
 unfolding dealt

@@ -8,7 +8,7 @@ use Rattle.pp_link.specs.declared.layout.Sizes.{Sizes}
 use Rattle.pp_link.specs.Links.{target}
 use Rattle.pp_link.specs.Places.{IsNumber}
 use Rattle.pp_rule.specs.Lists.{IsIn}
-use Rattle.pp_rule.specs.Orders.{log_of, entries_of, placed_by}
+use Rattle.pp_rule.specs.Orders.{log_of, placed_by}
 use Rattle.pp_rule.specs.Views.{slot}
 use Rattle.pp_rule.specs.States.{RecordState, owned, IsUsed}
 use Rattle.pp_rule.specs.Opening.{dealt, opening_words}
@@ -21,6 +21,7 @@ use Rattle.pp_link.specs.Words.{head_word, cell_word}
 use Rattle.pp_queues.proofs.Lining.{leads_to}
 use Rattle.pp_rule.proofs.Put.{in_nil}
 use Rattle.pp_rule.proofs.OpeningWords.{opening_head, opening_field}
+use Rattle.pp_rule.proofs.OpeningOrder.{no_log, no_placed}
 use Rattle.pp_queues.specs.declared.calls.QueueChange.{QueueChange}
 use Rattle.pp_queues.specs.declared.calls.QueuePlaced.{QueuePlaced}
 use Rattle.pp_queues.specs.declared.own.QueueOwn.{QueueOwn}
@@ -45,14 +46,6 @@ queue_links_open n side low high lt = record { small = omega arith; valid = refl
 
 pub queue_freezes : Freezes queue_frozen
 queue_freezes w e = absurd (false≢true e)
-
-no_log : (order : List QueueStep) → order ≡ [] → log_of order ≡ []
-unfolding log_of entries_of
-no_log order e = ap log_of e
-
-no_placed : (p : ℕ) (order : List QueueStep) → order ≡ [] → placed_by p order ≡ []
-unfolding placed_by
-no_placed p order e = ap (placed_by p) e
 
 fresh_own : (z : Sizes) (p : ℕ) → (dealt 1 nobody z p).own ≡ nobody
 unfolding dealt

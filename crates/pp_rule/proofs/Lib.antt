@@ -27,6 +27,7 @@ pub mod Unshelving
 pub mod Seats
 pub mod Notes
 pub mod OpeningWords
+pub mod OpeningOrder
 pub mod Shares
 pub mod Opening
 pub mod Counting

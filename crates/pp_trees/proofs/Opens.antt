@@ -14,12 +14,13 @@ use Rattle.pp_rule.specs.declared.views.LoggedStep.{LoggedStep}
 use Rattle.pp_rule.specs.declared.views.WalkSlot.{WalkSlot}
 use Rattle.pp_rule.specs.Lists.{IsIn, Once}
 use Rattle.pp_rule.proofs.Put.{in_nil}
-use Rattle.pp_rule.specs.Orders.{log_of, entries_of, placed_by}
+use Rattle.pp_rule.specs.Orders.{log_of, placed_by}
 use Rattle.pp_rule.specs.Views.{slot}
 use Rattle.pp_rule.specs.States.{RecordState, attached, owned, IsUsed, IsLinked}
 use Rattle.pp_rule.specs.Opening.{opening_words, dealt, OpensInto}
 use Rattle.pp_rule.specs.Laws.{Freezes, HeadsOpen, LinksOpen, MetAtOpening}
 use Rattle.pp_rule.proofs.OpeningWords.{opening_head, opening_field}
+use Rattle.pp_rule.proofs.OpeningOrder.{no_log, no_placed}
 use Rattle.pp_trees.specs.Trees.{Heap, heap, side, HasChildren, HasNone, Internal, Leaf, Meets, root, down, IsEdge, Behind}
 use Rattle.pp_trees.specs.Trees.{inf0, inf1, inf2, root_head, SearchTree, Mapped}
 use Rattle.pp_trees.specs.Searches.{TreeOwn, Searches, Trees}
@@ -253,14 +254,6 @@ module _ (z : Sizes) (t : Heap) (o : Opens z t) where
           (λ f. let k : t.key 3 ≡ inf0 = o.key 3 (omega arith) (omega arith) in omega arith)
           (λ f. let k : t.key 4 ≡ inf1 = o.key 4 (omega arith) (omega arith) in omega arith)
           (λ f. let k : t.key 5 ≡ inf2 = o.key 5 (omega arith) (omega arith) in omega arith) l (omega arith) to from
-
-no_log : (order : List (LoggedStep Change Placed)) → order ≡ [] → log_of order ≡ []
-unfolding log_of entries_of
-no_log order e = ap log_of e
-
-no_placed : (p : ℕ) (order : List (LoggedStep Change Placed)) → order ≡ [] → placed_by p order ≡ []
-unfolding placed_by
-no_placed p order e = ap (placed_by p) e
 
 no_change : Sound []
 no_change p c e = absurd cc
