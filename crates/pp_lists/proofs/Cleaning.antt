@@ -1,6 +1,6 @@
 -- As many records are attached as there are pairs exactly where no attached record is removed.
-use Rattle.std.proofs.Common.{◌≡◌, ◌≢◌, ℕ, ◌+◌, ◌≤◌, List, [], ◌∷◌, length, refl, sym, ap, ◌∙◌, subst, ⊎_elim, arith, Bool, true}
-use Rattle.std.proofs.Common.{false, cond, eqb, eq-eqb, ne_eqb, ◌⊎◌, inl, inr}
+use Rattle.std.proofs.Common.{◌≡◌, ℕ, ◌+◌, ◌≤◌, List, [], ◌∷◌, length, refl, sym, ap, ◌∙◌, subst, ⊎_elim, arith, Bool, true}
+use Rattle.std.proofs.Common.{false, cond, eqb, eq-eqb, ne_eqb}
 use Rattle.std.proofs.Math.Decide.{ℕ_discrete}
 use mathlib.Core.Logic.{dite}
 use Rattle.pp_link.specs.declared.layout.Sizes.{Sizes}
@@ -8,7 +8,7 @@ use Rattle.pp_link.specs.Links.{target}
 use Rattle.pp_link.specs.Places.{IsNumber}
 use Rattle.pp_link.specs.Words.{head_word, cell_word}
 use Rattle.pp_model.specs.History.{contents_of}
-use Rattle.pp_rule.specs.Lists.{IsIn, Once, without, times}
+use Rattle.pp_rule.specs.Lists.{IsIn, Once, without}
 use Rattle.pp_rule.specs.Orders.{log_of}
 use Rattle.pp_rule.specs.States.{attached, Leads}
 use Rattle.pp_rule.specs.Rule.{Base}
@@ -16,8 +16,8 @@ use Rattle.pp_rule.specs.Reached.{Reached}
 use Rattle.pp_rule.specs.Reached.Reached.{by_head, by_link}
 use Rattle.pp_rule.specs.Causes.{CountsAttached}
 use Rattle.pp_rule.proofs.Put.{in_nil, in_first, in_later, in_cases}
-use Rattle.pp_rule.proofs.Without.{once_tail, once_head, once_cons, without_in}
-use Rattle.pp_rule.proofs.Counting.{times_here, times_else}
+use Rattle.pp_rule.proofs.Without.{once_tail, once_head, without_in}
+use Rattle.pp_rule.proofs.Occurrences.{once_counted}
 use Rattle.pp_model.specs.declared.Pair.{Pair}
 use Rattle.pp_rule.proofs.Reaching.{reached_attached}
 use Rattle.pp_lists.specs.Contents.{list_alive}
@@ -25,7 +25,7 @@ use Rattle.pp_rule.specs.Opening.{opening_words}
 use Rattle.pp_rule.proofs.OpeningWords.{opening_head}
 use Rattle.pp_lists.specs.Lists.{ListState, Lists, list_head, list_field}
 use Rattle.pp_lists.specs.Clean.{IsBare}
-use Rattle.pp_lists.proofs.Closing.{IsAlive, live_in, live_once, live_all, low_bucket, told_gathered, contents_are, list_reached, counted}
+use Rattle.pp_lists.proofs.Closing.{IsAlive, live_in, live_once, live_all, low_bucket, told_gathered, contents_are, list_reached}
 
 no_longer : (n : ℕ) (ys : List ℕ) → length (without n ys) ≤ length ys
 no_longer n [] = omega arith
@@ -56,20 +56,6 @@ pigeon (x ∷ xs) ys once inside few n i = dite (ℕ_discrete n x)
     in_later n x xs (pigeon xs (without x ys) (once_tail (λ k. k) x xs once)
     (λ m j. without_in x m ys (inside m (in_later m x xs j)) (λ e. once_head (λ k. k) x xs once m j e))
     (omega arith) n (without_in x n ys i ne)))
-
--- numbers that are counted once at most
-once_counted : (ys : List ℕ) → ((n : ℕ) → times n ys ≤ 1) → Once ys
-once_counted [] few = λ k l x y at_k at_l e. absurd (in_nil x (k, at_k))
-once_counted (y ∷ ys) few = once_cons (λ k. k) y ys
-    (λ x i e. let one = counted x ys i in let here = times_here x y ys (sym e) in let most = few x in omega arith)
-    (once_counted ys (λ n. by n (ℕ_le_or y n)))
-  where
-    ℕ_le_or : (y n : ℕ) → (y ≡ n) ⊎ (y ≢ n)
-    ℕ_le_or y n = dite (ℕ_discrete y n) inl inr
-
-    by : (n : ℕ) → (y ≡ n) ⊎ (y ≢ n) → times n ys ≤ 1
-    by n (inl e) = let here = times_here n y ys e in let most = few n in omega arith
-    by n (inr ne) = let else_one = times_else n y ys ne in let most = few n in omega arith
 
 module _ (z : Sizes) (words : List ℕ) (g : ListState) (b : Base 1 z words g) (lists : Lists z words g) where
   alive_once : Once (list_alive z words)

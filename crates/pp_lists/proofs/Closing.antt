@@ -26,6 +26,8 @@ use Rattle.pp_rule.specs.Laws.{Closes}
 use Rattle.pp_rule.proofs.Put.{in_nil, in_cases, in_first, in_later, in_either, in_left, in_right}
 use Rattle.pp_rule.proofs.Counting.{times_here, times_else, times_nil, each_once, spare_free, spare_none}
 use Rattle.pp_rule.proofs.Times.{times_length, times_append}
+use Rattle.pp_rule.proofs.Freeing.{is_in}
+use Rattle.pp_rule.proofs.Occurrences.{not_counted, counted}
 use Rattle.pp_lists.specs.Walks.{heap, Source, at_head, at_record, word_at, IsLive, IsOn, IsBelow, bucket, bucket_at, Sane}
 use Rattle.pp_lists.specs.Lists.{ListState, Lists, ListTells, ListTellsPass}
 use Rattle.pp_lists.specs.Contents.{next_of, along, unmarked, live_at, live_of, list_alive, pair_of, in_order, list_pairs}
@@ -33,25 +35,6 @@ use Rattle.pp_lists.specs.Contents.{ListGathered, list_count}
 use Rattle.pp_lists.proofs.Shaping.{is_linked}
 use Rattle.pp_lists.proofs.Heaps.{sane_of}
 use Rattle.pp_lists.proofs.Ordering.{has_key, KeysOnce, map_is}
-
--- what stands in no place is counted 0 times, and what is counted stands somewhere
-not_counted : (x : ℕ) (ns : List ℕ) → (IsIn x ns → ⊥) → times x ns ≡ 0
-not_counted x [] out = times_nil x
-not_counted x (n ∷ ns) out = times_else x n ns (λ e. out (subst (λ (m : ℕ). IsIn m (n ∷ ns)) e (in_first n ns)))
-    ∙ not_counted x ns (λ i. out (in_later x n ns i))
-
-pub counted : (x : ℕ) (ns : List ℕ) → IsIn x ns → 1 ≤ times x ns
-counted x [] i = absurd (in_nil x i)
-counted x (n ∷ ns) i = dite (ℕ_discrete n x)
-    (λ e. let one = times_here x n ns e in omega arith)
-    (λ ne. let same = times_else x n ns ne in ⊎_elim (λ (e : x ≡ n). absurd (ne (sym e)))
-    (λ (j : IsIn x ns). let more = counted x ns j in omega arith) (in_cases x n ns i))
-
-is_in_or : (x : ℕ) (ns : List ℕ) → IsIn x ns ⊎ (IsIn x ns → ⊥)
-is_in_or x [] = inr (in_nil x)
-is_in_or x (n ∷ ns) = dite (ℕ_discrete n x) (λ e. inl (subst (λ (m : ℕ). IsIn m (n ∷ ns)) e (in_first n ns)))
-    (λ ne. ⊎_elim (λ (i : IsIn x ns). inl (in_later x n ns i))
-    (λ (out : IsIn x ns → ⊥). inr (λ i. ⊎_elim (λ (e : x ≡ n). ne (sym e)) out (in_cases x n ns i))) (is_in_or x ns))
 
 -- the numbers 1 to n
 all_length : (low n : ℕ) → length (spare [] low n) ≡ n
@@ -75,7 +58,7 @@ few_numbers z ns once range = let le = times_length ns (spare [] 1 z.records) ea
           high = λ n more_than. times_nil n;
         } m lo hi in
         let nil = times_nil m in let most = once m in omega arith)
-        (λ (out : IsIn m ns → ⊥). let none = not_counted m ns out in omega arith) (is_in_or m ns)
+        (λ (out : IsIn m ns → ⊥). let none = not_counted m ns out in omega arith) (is_in m ns)
 
 module _ (z : Sizes) (words : List ℕ) where
   pub along_nil : (most n : ℕ) → n ≡ 0 → along z words most n ≡ []
@@ -288,7 +271,7 @@ module _ (z : Sizes) (words : List ℕ) (g : ListState) (b : Base 1 z words g) (
       let none = not_counted m (live_of z words h) (λ j. let y = live_in h m (omega arith) j in let lt = y.1 in omega arith) in
       omega arith)
       (λ (out : IsIn m (live_at z words h) → ⊥). let none = not_counted m (live_at z words h) out in omega arith)
-      (is_in_or m (live_at z words h))
+      (is_in m (live_at z words h))
 
   pub live_all : (h m : ℕ) → h ≤ z.heads → IsAlive m → bucket z.heads (cell_word words z m 0) < h → IsIn m (live_of z words h)
   live_all zero m le a lt = absurd (omega arith)

@@ -31,18 +31,12 @@ use Rattle.pp_lists.proofs.Walking.{finds_detached, real}
 use Rattle.pp_lists.proofs.Chaining.{in_none, in_first, in_rest, in_cases, Link, each_link, chain_up, no_other}
 use Rattle.pp_lists.proofs.Shaping.{listed_detached, mapped_detached, intact_detached, still, is_linked}
 use Rattle.pp_rule.proofs.Learnt.{never_learnt}
+use Rattle.pp_rule.proofs.Occurrences.{not_counted}
 use Rattle.pp_lists.proofs.Heaps.{sane_of, rewired_of, place_of_live, cell_once}
 use Rattle.pp_lists.proofs.Keeping.{Steadily, kept_pass, lists_quiet}
 use Rattle.pp_lists.proofs.Leaving.{rewired_flag, leaves_on}
 
 -- The chain in the order in which its links lead.
-
--- what doesn't stand in a list is counted 0 times
-not_counted : (x : ℕ) (ns : List ℕ) → (IsIn x ns → ⊥) → times x ns ≡ 0
-unfolding times
-not_counted x [] out = refl
-not_counted x (n ∷ ns) out = ap (λ (b : Bool). cond b (suc (times x ns)) (times x ns)) (ne_eqb n x (λ e. out (in_first n x ns e)))
-    ∙ not_counted x ns (λ i. out (in_rest n x ns i))
 
 counted_first : (x n : ℕ) (ns : List ℕ) → times x (n ∷ ns) ≡ 0 → (n ≢ x) × (times x ns ≡ 0)
 unfolding times

@@ -2,20 +2,19 @@
 use Rattle.std.proofs.Common.{◌≡◌, ◌≢◌, ⊎_elim, ℕ, zero, suc, ◌+◌, ◌<◌, ◌≤◌, Bool, cond, List, []}
 use Rattle.std.proofs.Common.{◌∷◌, map, length}
 use Rattle.std.proofs.Common.{get_or, refl, sym, ap, ap₂, ◌∙◌, subst, arith, eq-eqb, ne_eqb}
-use Rattle.std.proofs.Math.Decide.{ℕ_discrete}
-use mathlib.Core.Logic.{dite}
 use Rattle.pp_link.specs.declared.layout.Sizes.{Sizes}
 use Rattle.pp_link.specs.Links.{target}
 use Rattle.pp_link.specs.Places.{IsNumber}
 use Rattle.pp_link.specs.Words.{head_word, cell_word}
 use Rattle.pp_model.specs.declared.Pair.{Pair}
-use Rattle.pp_rule.specs.Lists.{IsIn, Once, times, rest_of}
+use Rattle.pp_rule.specs.Lists.{IsIn, Once, rest_of}
 use Rattle.pp_rule.specs.Orders.{log_of}
 use Rattle.pp_rule.specs.Rule.{Base}
 use Rattle.pp_rule.specs.Laws.{Closes}
 use Rattle.pp_rule.specs.Closing.{Gathers}
-use Rattle.pp_rule.proofs.Put.{in_nil, in_first, in_later, in_cases}
+use Rattle.pp_rule.proofs.Put.{in_nil, in_cases}
 use Rattle.pp_rule.proofs.Without.{once_cons}
+use Rattle.pp_rule.proofs.Occurrences.{not_counted, once_times}
 use Rattle.pp_base.proofs.Numbered.{bounded}
 use Rattle.pp_queues.specs.Queue.{items_of}
 use Rattle.pp_queues.specs.Queues.{QueueState, Queues}
@@ -63,29 +62,6 @@ line_once at i (suc k) once = once_cons (λ n. n) (at i) (line at (i + 1) k)
     let bad : i ≡ w.0 = once i w.0 (omega arith) (omega arith) (omega arith) (omega arith) (sym same ∙ sym w.1.2) in
     absurd (omega arith))
     (line_once at (i + 1) k (λ j m a b c d same. once j m (omega arith) (omega arith) (omega arith) (omega arith) same))
-
-pub times_gone : (n : ℕ) (xs : List ℕ) → (IsIn n xs → ⊥) → times n xs ≡ 0
-unfolding times
-times_gone n [] out = refl
-times_gone n (x ∷ xs) out = ap (λ (b : Bool). cond b (suc (times n xs)) (times n xs))
-    (ne_eqb x n (λ e. out (subst (λ (y : ℕ). IsIn n (y ∷ xs)) (sym e) (in_first n xs))))
-    ∙ times_gone n xs (λ i. out (in_later n x xs i))
-
--- what stands once in a list isn't there more often
-pub times_of_once : (n : ℕ) (xs : List ℕ) → Once xs → times n xs ≤ 1
-unfolding times
-times_of_once n [] once = omega arith
-times_of_once n (x ∷ xs) once = dite (ℕ_discrete x n)
-    (λ e. let none = times_gone n xs (λ i. once_head_no x n xs e once i) in
-    subst (λ (b : Bool). cond b (suc (times n xs)) (times n xs) ≤ 1) (sym (eq-eqb x n e)) (omega (arith, none)))
-    (λ ne. subst (λ (b : Bool). cond b (suc (times n xs)) (times n xs) ≤ 1) (sym (ne_eqb x n ne))
-    (times_of_once n xs (once_rest x xs once)))
-  where
-    once_head_no : (x n : ℕ) (xs : List ℕ) → x ≡ n → Once (x ∷ xs) → IsIn n xs → ⊥
-    once_head_no x n xs e once i = let bad : zero ≡ suc i.0 = once 0 (suc i.0) x n refl i.1 e in absurd (omega arith)
-
-    once_rest : (x : ℕ) (xs : List ℕ) → Once (x ∷ xs) → Once xs
-    once_rest x xs once k m a b at_k at_m e = let y : suc k ≡ suc m = once (suc k) (suc m) a b at_k at_m e in omega arith
 
 -- a list whose entries are these values
 pub values_are : (at value : ℕ → ℕ) (i : ℕ) (xs : List ℕ) → ((k : ℕ) → k < length xs → get_or xs k 0 ≡ value (at (i + k)))
@@ -152,9 +128,9 @@ queue_gathers z words g contents live_are b q gathered = let is = gathered.1 ∙
     let each = λ (m : ℕ) (i : IsIn m live). let y = line_in q.at 0 (length items + 1) m i in let hi = y.1.1 in
     subst (IsNumber z) y.1.2 (q.lined.each y.0 (omega arith)).0 in (
       subst (Gathers z) (sym is) record {
-        once = λ n. times_of_once n live (line_numbers z words g b q);
-        low = times_gone 0 live (λ i. let one = (each 0 i).0 in omega arith);
-        high = λ n past. times_gone n live (λ i. let most = (each n i).1 in omega arith);
+        once = λ n. once_times n live (line_numbers z words g b q);
+        low = not_counted 0 live (λ i. let one = (each 0 i).0 in omega arith);
+        high = λ n past. not_counted n live (λ i. let most = (each n i).1 in omega arith);
       },
       (let all = ap (λ (l : List ℕ). length l) gathered.1 in let some = ap (λ (ps : List Pair). length ps) gathered.0 in
           let long = alive_long z words g b q in let same = ap (λ (vs : List ℕ). length vs) (values_of z words g b q) in

@@ -1,5 +1,5 @@
 -- What a reclaim pass keeps was named by a word that it read, and what it frees was not.
-use Rattle.std.proofs.Common.{◌≡◌, ℕ, zero, suc, ◌+◌, ◌-◌, ◌*◌, ◌<◌, ◌≤◌, Bool, true, false, cond, ◌||◌, List, [], ◌∷◌, ◌++◌}
+use Rattle.std.proofs.Common.{◌≡◌, ℕ, zero, suc, ◌+◌, ◌-◌, ◌*◌, ◌<◌, Bool, true, false, cond, ◌||◌, List, [], ◌∷◌, ◌++◌}
 use Rattle.std.proofs.Common.{length, refl, sym, ap, ◌∙◌, subst, ⊎_elim, eq-eqb, ne_eqb, arith}
 use Rattle.std.proofs.Math.Bool.{false≢true}
 use Rattle.std.proofs.Math.Decide.{ℕ_discrete}
@@ -9,12 +9,10 @@ use mathlib.Core.Option.{some, some-ne-none}
 use lib.ListN.{get_elem?}
 use Rattle.pp_link.specs.declared.layout.Sizes.{Sizes}
 use Rattle.pp_link.specs.Places.{frontier_place, walk_place}
-use Rattle.pp_rule.specs.Lists.{IsIn, Once, times}
+use Rattle.pp_rule.specs.Lists.{IsIn}
 use Rattle.pp_rule.proofs.Put.{in_nil, in_first, in_later, in_cases, in_either, at_below}
-use Rattle.pp_rule.proofs.Without.{once_tail, once_head}
 use Rattle.pp_base.specs.Named.{NamedStep, scans_frontier, scans_walk}
 use Rattle.pp_base.specs.Scans.{is_named, chosen, rejected}
-use Rattle.pp_rule.proofs.Times.{times_length}
 use Rattle.pp_base.proofs.Named.{in_turn_at}
 use Rattle.pp_reclaim.specs.Sweeps.{in_turn, WasNamed}
 
@@ -56,37 +54,6 @@ chosen_in words ns n i = named_in words n (in_chosen (is_named words) ns n i)
 
 pub rejected_out : (words ns : List ℕ) (n : ℕ) → IsIn n words → IsIn n (rejected (is_named words) ns) → ⊥
 rejected_out words ns n i gone = false≢true (sym (in_rejected (is_named words) ns n gone) ∙ in_named words n i)
-
--- how often a number stands in a list
-times_in : (n : ℕ) (ys : List ℕ) → IsIn n ys → 1 ≤ times n ys
-unfolding times
-times_in n [] i = absurd (in_nil n i)
-times_in n (y ∷ ys) i = dite (ℕ_discrete y n)
-    (λ same. subst (λ (b : Bool). 1 ≤ cond b (suc (times n ys)) (times n ys)) (sym (eq-eqb y n same)) (omega arith))
-    (λ other. subst (λ (b : Bool). 1 ≤ cond b (suc (times n ys)) (times n ys)) (sym (ne_eqb y n other))
-    (times_in n ys (⊎_elim (λ (here : n ≡ y). absurd (other (sym here))) (λ (later : IsIn n ys). later) (in_cases n y ys i))))
-
-in_times : (n : ℕ) (ys : List ℕ) → 1 ≤ times n ys → IsIn n ys
-unfolding times
-in_times n [] has = absurd (omega arith)
-in_times n (y ∷ ys) has = dite (ℕ_discrete y n) (λ same. subst (λ (k : ℕ). IsIn k (y ∷ ys)) same (in_first y ys))
-    (λ other. in_later n y ys (in_times n ys (subst (λ (b : Bool). 1 ≤ cond b (suc (times n ys)) (times n ys)) (ne_eqb y n other) has)))
-
-once_times : (n : ℕ) (xs : List ℕ) → Once xs → times n xs ≤ 1
-unfolding times
-once_times n [] o = omega arith
-once_times n (x ∷ xs) o = dite (ℕ_discrete x n)
-    (λ same. subst (λ (b : Bool). cond b (suc (times n xs)) (times n xs) ≤ 1) (sym (eq-eqb x n same))
-    (let none : 1 ≤ times n xs → ⊥ = λ (has : 1 ≤ times n xs). once_head (λ k. k) x xs o n (in_times n xs has) (sym same) in
-    omega (arith, none)))
-    (λ other. subst (λ (b : Bool). cond b (suc (times n xs)) (times n xs) ≤ 1) (sym (ne_eqb x n other))
-    (once_times n xs (once_tail (λ k. k) x xs o)))
-
--- a list that has each number once is no longer than one that has all of them
-pub no_longer : (xs ys : List ℕ) → Once xs → ((n : ℕ) → IsIn n xs → IsIn n ys) → length xs ≤ length ys
-no_longer xs ys o all = times_length xs ys (λ n. let one = once_times n xs o in dite (ℕ_discrete (times n xs) 0)
-    (λ none. omega (arith, none))
-    (λ has. let there = times_in n ys (all n (in_times n xs (omega (arith, has)))) in omega (arith, one, there)))
 
 -- the entry at an index of two lists put together
 at_left : {A : Type 0} (xs ys : List A) (k : ℕ) (x : A) → get_elem? xs k ≡ some x → get_elem? (xs ++ ys) k ≡ some x

@@ -23,7 +23,8 @@ use Rattle.pp_base.proofs.Parted.{rejected_words, chosen_without}
 use Rattle.pp_base.specs.Named.{scans_frontier, scans_walk, MadeOne}
 use Rattle.pp_base.proofs.Named.{made_append, made_in_turn}
 use Rattle.pp_reclaim.specs.Sweeps.{in_turn, HasReadMost, Swept, swept}
-use Rattle.pp_reclaim.proofs.Staying.{chosen_in, rejected_out, no_longer, was_named}
+use Rattle.pp_rule.proofs.Occurrences.{fits_in}
+use Rattle.pp_reclaim.proofs.Staying.{chosen_in, rejected_out, was_named}
 
 -- all but the last of the words
 pub most_words : (fronts walks last : List ℕ) → length last ≡ 1
@@ -129,6 +130,6 @@ module _ {E A W : Type 0} (z : Sizes) (words : List ℕ) (s s' : Seat Unit (Seat
           );
           kept = λ n i freed. rejected_out read (known s).retired n i (subst (λ (l : List ℕ). IsIn n l) gone freed);
           named = λ n i. was_named z h.fronts (h.walks ++ found ∷ []) n h.all_fronts all_walks (stay n i);
-          few = let fewer = no_longer (known s'').retired read once stay in
+          few = let fewer = fits_in (known s'').retired read once stay in
               omega (arith, fewer, length-append h.fronts (h.walks ++ found ∷ []), h.all_fronts, all_walks);
         }

@@ -32,6 +32,7 @@ pub mod Shares
 pub mod Opening
 pub mod Counting
 pub mod Times
+pub mod Occurrences
 pub mod Alone
 pub mod Undisturbed
 pub mod Cleanly

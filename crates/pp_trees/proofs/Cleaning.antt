@@ -14,18 +14,17 @@ use Rattle.pp_model.specs.FiniteMap.{find, keys_of}
 use Rattle.pp_model.specs.History.{contents_of}
 use Rattle.pp_model.specs.Lists.{RisesFrom}
 use Rattle.pp_rule.specs.Causes.{CountsAttached}
-use Rattle.pp_rule.specs.Lists.{IsIn, OnceBy, Once, times}
+use Rattle.pp_rule.specs.Lists.{IsIn, OnceBy, Once}
 use Rattle.pp_rule.specs.Orders.{log_of}
 use Rattle.pp_rule.specs.Reached.{Reached}
 use Rattle.pp_rule.specs.Rule.{Base}
 use Rattle.pp_rule.specs.States.{attached}
 use Rattle.pp_rule.proofs.Cleanly.{opens_clean}
-use Rattle.pp_rule.proofs.Counting.{times_here, times_else}
 use Rattle.pp_rule.proofs.Lone.{led_number}
 use Rattle.pp_rule.proofs.Put.{in_nil, in_first, in_later, in_cases, in_left, in_right, in_either}
 use Rattle.pp_rule.proofs.Reaching.{reached_attached}
-use Rattle.pp_rule.proofs.Times.{times_length}
 use Rattle.pp_rule.proofs.Without.{once_cons, once_append, once_head, once_tail}
+use Rattle.pp_rule.proofs.Occurrences.{fits_in}
 use Rattle.pp_trees.specs.Clean.{IsBare}
 use Rattle.pp_trees.specs.Gathering.{LiveLeaf}
 use Rattle.pp_trees.specs.Lone.{tree_opens}
@@ -34,27 +33,12 @@ use Rattle.pp_trees.specs.Sentinels.{sentinel_field, fresh_own}
 use Rattle.pp_trees.specs.Trees.{Heap, heap, side, edge, HasChildren, HasNone, Internal, Leaf, inf0, inf1, inf2, Sane, SearchTree}
 use Rattle.pp_trees.specs.Trees.{root_head, Stored, Mapped}
 use Rattle.pp_trees.proofs.Below.{below, tips, twice, IsOn, root_on, on_below, once_below, keys_once, all_below, all_tips, each_tip}
-use Rattle.pp_trees.proofs.Closes.{in_times, once_times}
 use Rattle.pp_trees.proofs.Heaps.{sane_of}
 use Rattle.pp_trees.proofs.Opens.{tree_heads_open, tree_links_open, tree_opened}
 use Rattle.pp_trees.proofs.Reaching.{tree_reached}
 use Rattle.pp_trees.proofs.Rising.{find_here, find_else}
 use Rattle.pp_trees.proofs.Spanning.{leaf_low, sentinels_live, live_is_leaf}
 use Rattle.pp_trees.proofs.Walking.{is_linked, side_low, meets_internal, child_leaf, one_leaf}
-
-counted : (x : ℕ) (ns : List ℕ) → IsIn x ns → 1 ≤ times x ns
-counted x [] i = absurd (in_nil x i)
-counted x (n ∷ ns) i = dite (ℕ_discrete n x)
-    (λ e. let one = times_here x n ns e in omega arith)
-    (λ ne. let same = times_else x n ns ne in ⊎_elim (λ (e : x ≡ n). absurd (ne (sym e)))
-    (λ (j : IsIn x ns). let more = counted x ns j in omega arith) (in_cases x n ns i))
-
--- distinct numbers of a list are no more than it has
-pub fits_in : (xs ys : List ℕ) → Once xs → ((n : ℕ) → IsIn n xs → IsIn n ys) → length xs ≤ length ys
-fits_in xs ys once inside = times_length xs ys (λ n. let most = once_times n xs once in ⊎_elim
-    (λ (some : 0 < times n xs). let there = counted n ys (inside n (in_times n xs (omega arith))) in omega arith)
-    (λ (none : times n xs ≤ 0). omega arith)
-    (cases_lt 0 (times n xs)))
 
 module _ {A : Type 0} (f : A → ℕ) where
   in_map : (x : A) (xs : List A) → IsIn x xs → IsIn (f x) (map f xs)

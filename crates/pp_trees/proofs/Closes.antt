@@ -1,6 +1,6 @@
 -- What a closed tree tells: its contents are the map that the log leaves.
-use Rattle.std.proofs.Common.{◌≡◌, ℕ, suc, ◌<◌, ◌≤◌, Bool, cond, List, [], ◌∷◌}
-use Rattle.std.proofs.Common.{Some, refl, sym, ap, ◌∙◌, subst, arith, eq-eqb, ne_eqb}
+use Rattle.std.proofs.Common.{◌≡◌, ℕ, ◌<◌, List}
+use Rattle.std.proofs.Common.{Some, refl, sym, ap, ◌∙◌, subst, arith}
 use Rattle.std.proofs.Math.Decide.{ℕ_discrete}
 use mathlib.Core.Logic.{dite}
 use Rattle.pp_link.specs.declared.layout.Sizes.{Sizes}
@@ -10,13 +10,12 @@ use Rattle.pp_model.specs.declared.Placed.{Placed}
 use Rattle.pp_model.specs.declared.Pair.{Pair}
 use Rattle.pp_model.specs.FiniteMap.{find}
 use Rattle.pp_model.specs.History.{contents_of}
-use Rattle.pp_rule.specs.Lists.{IsIn, Once, times}
+use Rattle.pp_rule.specs.Lists.{times}
 use Rattle.pp_rule.specs.Closing.{Gathers}
 use Rattle.pp_rule.specs.Laws.{Closes}
 use Rattle.pp_rule.specs.Orders.{log_of}
 use Rattle.pp_rule.specs.States.{attached}
-use Rattle.pp_rule.proofs.Put.{in_first, in_later}
-use Rattle.pp_rule.proofs.Without.{once_head, once_tail}
+use Rattle.pp_rule.proofs.Occurrences.{in_times, once_times}
 use Rattle.pp_trees.specs.Trees.{Heap, heap, side, edge, Meets, inf0, Sane, SearchTree, Stored, Mapped}
 use Rattle.pp_trees.specs.Searches.{TreeOwn, Trees}
 use Rattle.pp_trees.specs.Gathering.{LiveLeaf, IsGathered, TreeGathered, live_in_tree, TreeTells, TreeTellsPass}
@@ -24,24 +23,6 @@ use Rattle.pp_trees.proofs.Walking.{meets_internal, side_low}
 use Rattle.pp_trees.proofs.Heaps.{sane_of}
 use Rattle.pp_trees.proofs.Rising.{same_finds, some_same}
 use Rattle.pp_trees.proofs.Gathers.{gathered_still, live_number}
-
--- a number stands in a list as often as it is in it
-pub in_times : (n : ℕ) (ys : List ℕ) → 1 ≤ times n ys → IsIn n ys
-unfolding times
-in_times n [] has = absurd (omega arith)
-in_times n (y ∷ ys) has = dite (ℕ_discrete y n) (λ same. subst (λ (k : ℕ). IsIn k (y ∷ ys)) same (in_first y ys))
-    (λ other. in_later n y ys (in_times n ys (subst (λ (b : Bool). 1 ≤ cond b (suc (times n ys)) (times n ys))
-    (ne_eqb y n other) has)))
-
-pub once_times : (n : ℕ) (xs : List ℕ) → Once xs → times n xs ≤ 1
-unfolding times
-once_times n [] o = omega arith
-once_times n (x ∷ xs) o = dite (ℕ_discrete x n)
-    (λ same. subst (λ (b : Bool). cond b (suc (times n xs)) (times n xs) ≤ 1) (sym (eq-eqb x n same))
-    (let none : 1 ≤ times n xs → ⊥ = λ (has : 1 ≤ times n xs). once_head (λ k. k) x xs o n (in_times n xs has) (sym same) in
-    omega (arith, none)))
-    (λ other. subst (λ (b : Bool). cond b (suc (times n xs)) (times n xs) ≤ 1) (sym (ne_eqb x n other))
-    (once_times n xs (once_tail (λ k. k) x xs o)))
 
 module _ (z : Sizes) (t : Heap) (sane : Sane z t) (tree : SearchTree z t) where
   -- the value of a live leaf is that of its key in the map

@@ -1,5 +1,5 @@
 -- Where a pass is alone on its pool, as many records are attached as there are pairs exactly where none that can be reached is removed.
-use Rattle.std.proofs.Common.{◌≡◌, ◌≢◌, ℕ, zero, suc, ◌+◌, ◌<◌, ◌≤◌, ◌⊎◌, inl, inr, ⊎_elim, Bool, true, false, cond, nat_eq, List, [], ◌∷◌}
+use Rattle.std.proofs.Common.{◌≡◌, ◌≢◌, ℕ, zero, suc, ◌+◌, ◌<◌, ◌≤◌, ⊎_elim, Bool, true, false, cond, nat_eq, List, [], ◌∷◌}
 use Rattle.std.proofs.Common.{length, refl, sym, ap, ◌∙◌, subst, arith}
 use Rattle.std.proofs.Math.Decide.{ℕ_discrete}
 use mathlib.Core.Logic.{dite}
@@ -9,7 +9,7 @@ use Rattle.pp_link.specs.Places.{IsNumber}
 use Rattle.pp_link.specs.Words.{head_word, cell_word}
 use Rattle.pp_model.specs.declared.Pair.{Pair}
 use Rattle.pp_model.specs.History.{contents_of}
-use Rattle.pp_rule.specs.Lists.{IsIn, Once, times}
+use Rattle.pp_rule.specs.Lists.{IsIn}
 use Rattle.pp_rule.specs.Orders.{log_of}
 use Rattle.pp_rule.specs.Rule.{Base}
 use Rattle.pp_rule.specs.Reached.{Reached}
@@ -17,8 +17,8 @@ use Rattle.pp_rule.specs.Reached.Reached.{by_head, by_link}
 use Rattle.pp_rule.specs.Causes.{CountsAttached}
 use Rattle.pp_rule.proofs.Lone.{led_number}
 use Rattle.pp_rule.proofs.Put.{in_nil, in_first, in_later, in_cases, in_either}
-use Rattle.pp_rule.proofs.Without.{once_cons}
-use Rattle.pp_rule.proofs.Counting.{times_here, times_else}
+use Rattle.pp_rule.proofs.Freeing.{is_in}
+use Rattle.pp_rule.proofs.Occurrences.{once_counted}
 use Rattle.pp_rule.proofs.Reaching.{reached_attached}
 use Rattle.pp_rule.proofs.Undisturbed.{by_state, stable_less}
 use Rattle.pp_lists.specs.Contents.{along, unmarked, live_of, live_at, list_alive, next_of}
@@ -26,29 +26,8 @@ use Rattle.pp_lists.specs.Clean.{IsBare}
 use Rattle.pp_lists.specs.Lists.{ListState, ListStep, Lists}
 use Rattle.pp_lists.specs.Turns.{ListView}
 use Rattle.pp_lists.proofs.Cleaning.{clean_bare}
-use Rattle.pp_lists.proofs.Closing.{live_in, live_once, live_all, low_bucket, told_gathered, contents_are, counted}
+use Rattle.pp_lists.proofs.Closing.{live_in, live_once, live_all, low_bucket, told_gathered, contents_are}
 use Rattle.pp_walk.specs.Lone.{list_opens, words_of, Sees}
-
--- numbers that are counted once at most
-once_counted : (ys : List ℕ) → ((n : ℕ) → times n ys ≤ 1) → Once ys
-once_counted [] few = λ k l x y at_k at_l e. absurd (in_nil x (k, at_k))
-once_counted (y ∷ ys) few = once_cons (λ k. k) y ys
-    (λ x i e. let one = counted x ys i in let here = times_here x y ys (sym e) in let most = few x in omega arith)
-    (once_counted ys (λ n. by n (or_not y n)))
-  where
-    or_not : (y n : ℕ) → (y ≡ n) ⊎ (y ≢ n)
-    or_not y n = dite (ℕ_discrete y n) inl inr
-
-    by : (n : ℕ) → (y ≡ n) ⊎ (y ≢ n) → times n ys ≤ 1
-    by n (inl e) = let here = times_here n y ys e in let most = few n in omega arith
-    by n (inr ne) = let else_one = times_else n y ys ne in let most = few n in omega arith
-
--- a number stands in a list or doesn't
-in_or_not : (n : ℕ) (xs : List ℕ) → IsIn n xs ⊎ (IsIn n xs → ⊥)
-in_or_not n [] = inr (in_nil n)
-in_or_not n (x ∷ xs) = dite (ℕ_discrete n x) (λ e. inl (subst (λ (k : ℕ). IsIn k (x ∷ xs)) (sym e) (in_first x xs)))
-    (λ ne. ⊎_elim (λ (i : IsIn n xs). inl (in_later n x xs i))
-    (λ (no : IsIn n xs → ⊥). inr (λ i. ⊎_elim (λ (e : n ≡ x). ne e) no (in_cases n x xs i))) (in_or_not n xs))
 
 module _ (z : Sizes) (words : List ℕ) where
   in_unmarked : (m : ℕ) (ns : List ℕ) → IsIn m (unmarked z words ns) → IsIn m ns
@@ -124,7 +103,7 @@ module _ (z : Sizes) (v : ListView) (sv : Sees z v) (one : z.passes ≡ 1) where
         absurd (bad (seen_at 1 0 (λ g b lists order. let number = numbered n (λ e. omega arith) r in
         absurd (no (live_all z W g b lists z.heads n (omega arith)
         record { number = number; state = reached_attached 1 z W g b n number r; plain = bare n number r } (low_bucket z W g b lists n))))))
-        ) (in_or_not n (list_alive z W));
+        ) (is_in n (list_alive z W));
   }
     where
       bad : ◌≡◌ {A = ℕ} 1 0 → ⊥
