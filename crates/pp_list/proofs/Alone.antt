@@ -24,7 +24,7 @@ use Rattle.pp_walk.specs.Lone.{list_opens, words_of, Sees}
 use Rattle.pp_walk.proofs.Lone.{run_of}
 use Rattle.pp_walk.proofs.LoneRuns.{calm_both}
 use Rattle.pp_list.specs.declared.going.ListGoing.{ListGoing}
-use Rattle.pp_list.specs.Answers.{Leaves}
+use Rattle.pp_list.specs.Purses.{Leaves}
 use Rattle.pp_walk.proofs.LoneEffects.{quiet_calm}
 use Rattle.pp_walk.proofs.LoneStays.{same_bare, named_same, quiet_same}
 use Rattle.pp_list.specs.Lone.{LoneAt, LoneTurn}
@@ -39,10 +39,10 @@ module _ (z : Sizes) (v w : ListView) (sv : Sees z v) (sw : Sees z w) (one : z.p
   -- what ends a call
   pub leaves_bare : (looks : Bool) (share : ℕ) (fresh : Option Fresh) (p p' : Purse) → Leaves looks z share fresh v w p p'
       → IsBare z (words_of z v) → IsBare z (words_of z w)
-  leaves_bare true share fresh p p' l = same_bare z v w sv sw one (quiet_same z v w sv sw one 0 l.idles)
-  leaves_bare false share fresh p p' l = same_bare z v w sv sw one (named_same z v w sv sw one (l.idles.steps ++ l.tidies.names)
-      (made_append l.idles.steps l.tidies.names v l.between w l.idles.did l.tidies.steps.made)
-      (calm_both l.idles.steps l.tidies.names (quiet_calm 0 v l.between l.idles) (λ s i. purse_calm z s (l.tidies.steps.each s i))))
+  leaves_bare true share fresh p p' l = same_bare z v w sv sw one (quiet_same z v w sv sw one 0 l.clears)
+  leaves_bare false share fresh p p' l = same_bare z v w sv sw one (named_same z v w sv sw one (l.clears.steps ++ l.tidies.names)
+      (made_append l.clears.steps l.tidies.names v l.between w l.clears.did l.tidies.steps.made)
+      (calm_both l.clears.steps l.tidies.names (quiet_calm 0 v l.between l.clears) (λ s i. purse_calm z s (l.tidies.steps.each s i))))
 
 -- A turn that ended the call.
 pub over_turn : (z : Sizes) (g g' : ListGoing) (w : ListView) (answer : Answer) (result : Turned) → g'.lost ≡ g.lost → result ≡ Done answer

@@ -38,6 +38,7 @@ use Rattle.pp_lists.specs.Turns.{ListView, EndsPast}
 use Rattle.pp_lists.specs.Losses.{list_reader}
 use Rattle.pp_lists.proofs.Losing.{finds_none}
 use Rattle.pp_turns.proofs.Answering.{told_as}
+use Rattle.pp_turns.specs.Answers.{SaysBy}
 use Rattle.pp_turns.specs.Tallies.{losing}
 use Rattle.pp_turns.specs.Turns.{Since, Replied}
 use Rattle.pp_turns.proofs.Placing.{replied_later, unplaced_on, after_longer}
@@ -48,13 +49,14 @@ use Rattle.pp_walk.specs.declared.walk.Found.{Found}
 use Rattle.pp_walk.specs.Effects.{MayFill}
 use Rattle.pp_walk.specs.Roles.{IsFound, IsEnd, at_nil, at_record, HasChain, no_chain, a_chain, found_in, is_look}
 use Rattle.pp_walk.specs.Trod.{Idles}
-use Rattle.pp_list.specs.Meant.{list_meaning}
+use Rattle.pp_list.specs.Causes.{list_causes}
+use Rattle.pp_list.specs.Meant.{list_words, list_meaning}
 use Rattle.pp_list.specs.declared.going.ListGoing.{ListGoing}
 use Rattle.pp_list.specs.declared.going.Next.{Next}
 use Rattle.pp_list.specs.declared.going.Next.TheVariants.{Detaches, Marks, Publishes}
 use Rattle.pp_list.specs.Purses.{HasOut}
 use Rattle.pp_list.specs.Going.{kind_of, is_after, Tries, Inserts, HoldsFirst, Stands, Carries}
-use Rattle.pp_list.specs.Answers.{Calm, SaysBy, Ends}
+use Rattle.pp_list.specs.Answers.{Calm, Ends}
 use Rattle.pp_list.specs.Turned.{SameGoing, Part, HasArrived, HasEnded}
 use Rattle.pp_list.proofs.Calm.{calm_quiet}
 
@@ -120,13 +122,14 @@ module _ (z : Sizes) (share : ℕ) (g : ListGoing) (f : Found) (v u : ListView) 
               let settled = subst (λ (s : Reply). Replied g.call s v.known.own.start from v) is (k.settled (ap changes is ∙ plain)) in
               told_as list_meaning (map_sizes z) g.call g.races (pool_view from free share) (pool_view w p'.free.items share) (Said said)
               g.lost g'.lost (sym lost_still) (e.answered from free g.lost record {
-                by = subst (λ (b : Bool). SaysBy b z g.races g.call said g.lost from u) (sym plain) record {
-                  start = v.known.own.start;
-                  memory = r.0;
-                  since = on;
-                  few = few;
-                  replied = replied_later g.call said v.known.own.start from v u k.since.went.number calm.stepped.order settled calm.unplaced;
-                };
+                by = subst (λ (b : Bool). SaysBy list_words list_causes (map_sizes z) g.races g.call b said g.lost from u)
+                    (sym plain) record {
+                      start = v.known.own.start;
+                      memory = r.0;
+                      since = on;
+                      few = few;
+                      replied = replied_later g.call said v.known.own.start from v u k.since.went.number calm.stepped.order settled calm.unplaced;
+                    };
                 last = saw_on from v u k.since.went k.last calm.stepped;
                 sizes = c.sizes;
                 kept = let few = c.kept in omega arith;

@@ -1,6 +1,6 @@
 -- Steps that count for nothing in a call.
-use Rattle.std.proofs.Common.{◌≡◌, ℕ, ◌+◌, Bool, true, false, List, ◌++◌, refl, sym, ap, ◌∙◌}
-use Rattle.std.proofs.Common.{append_assoc, arith}
+use Rattle.std.proofs.Common.{◌≡◌, ℕ, ◌+◌, Bool, true, false, List, ◌++◌, refl, ap, ◌∙◌}
+use Rattle.std.proofs.Common.{arith}
 use Rattle.std.specs.Prelude.{◌||◌, ◌&&◌, nat_eq, not}
 use Rattle.pp_link.specs.declared.layout.Sizes.{Sizes}
 use Rattle.pp_model.specs.declared.Call.{Call}
@@ -8,7 +8,7 @@ use Rattle.pp_model.specs.declared.steps.Step.{Step}
 use Rattle.pp_rule.specs.Causes.{memory_after}
 use Rattle.pp_base.specs.Named.{NamedStep, Made}
 use Rattle.pp_calls.specs.PoolViews.{is_writing}
-use Rattle.pp_calls.proofs.Growing.{stepped_both, stepped_made}
+use Rattle.pp_calls.proofs.Growing.{stepped_made}
 use Rattle.pp_calls.proofs.Remaining.{stands_made}
 use Rattle.pp_shelf.specs.Runs.{map_sizes, steps_made}
 use Rattle.pp_lists.specs.Turns.{ListView}
@@ -16,9 +16,9 @@ use Rattle.pp_lists.specs.Losses.{is_effect, has_flag, list_reader, finds as fin
 use Rattle.pp_turns.specs.Tallies.{losing, effected}
 use Rattle.pp_turns.specs.Turns.{Ran}
 use Rattle.pp_turns.specs.Causes.{Aside}
-use Rattle.pp_turns.proofs.Aside.{counts_losing, counts_effected}
-use Rattle.pp_turns.proofs.Placing.{unplaced_made, unplaced_on}
-use Rattle.pp_turns.proofs.Stretches.{ran_both, ran_as, own_before, stretch_both, steps_named}
+use Rattle.pp_turns.proofs.Calm as turns
+use Rattle.pp_turns.proofs.Placing.{unplaced_made}
+use Rattle.pp_turns.proofs.Stretches.{ran_as, steps_named}
 use Rattle.pp_walk.proofs.Counting.{walks_write_none}
 use Rattle.pp_walk.specs.Trod.{Idles, WriteNoLink, StrikeNone}
 use Rattle.pp_list.specs.Answers.{Calm}
@@ -90,27 +90,7 @@ module _ (z : Sizes) (call : Call) where
   }
 
   pub calm_aside : (v w : ListView) → Aside z v w → Calm z call v w
-  calm_aside v w a = record {
-    stepped = a.stepped;
-    stands = a.stands;
-    unplaced = a.unplaced;
-    losing_so = λ m n. (_, counts_losing list_reader z (list_over z) call v w a m n);
-    effected_so = λ m n few later. (_, counts_effected list_reader z (list_over z) call v w a m n few later);
-  }
+  calm_aside v w a = turns.calm_aside list_reader z (list_over z) call v w a
 
   pub calm_both : (u v w : ListView) → Calm z call u v → Calm z call v w → Calm z call u w
-  calm_both u v w a b = record {
-    stepped = stepped_both u v w a.stepped b.stepped;
-    stands = λ own stands. b.stands own (a.stands (own_before v w b.stepped own) stands);
-    unplaced = unplaced_on u v w a.stepped.number a.unplaced b.unplaced;
-    losing_so = λ m n. let x = a.losing_so m n in let y = b.losing_so x.0 n in
-        (y.0, ran_both list_reader (map_sizes z) call (losing m n) (losing x.0 n) (losing y.0 n) u v w x.1 y.1);
-    effected_so = λ m n few later. let x = a.effected_so m n few later in let y = b.effected_so x.0 n few (later ++ steps_made u v) in (
-      y.0,
-      ran_as list_reader (map_sizes z) call (effected m n few later) _ _ u w
-          (ap (λ (l : List Step). effected y.0 n few l) (append_assoc later (steps_made u v) (steps_made v w)
-          ∙ ap (λ (l : List Step). later ++ l) (sym (stretch_both u v w a.stepped b.stepped))))
-          (ran_both list_reader (map_sizes z) call (effected m n few later) (effected x.0 n few (later ++ steps_made u v))
-          (effected y.0 n few ((later ++ steps_made u v) ++ steps_made v w)) u v w x.1 y.1),
-    );
-  }
+  calm_both u v w a b = turns.calm_both list_reader (map_sizes z) call u v w a b

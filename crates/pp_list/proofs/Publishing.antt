@@ -38,6 +38,7 @@ use Rattle.pp_lists.specs.Lists.{ListPass}
 use Rattle.pp_lists.specs.Turns.{ListView, publish_step, change_at, placed_at, published}
 use Rattle.pp_lists.specs.Losses.{list_reader, is_effect, is_find, has_flag}
 use Rattle.pp_turns.proofs.Answering.{told_as}
+use Rattle.pp_turns.specs.Answers.{spends_of}
 use Rattle.pp_turns.specs.Tallies.{losing, effected, counting, lost_at}
 use Rattle.pp_turns.specs.Turns.{Ran, Struck}
 use Rattle.pp_turns.proofs.Placing.{struck_at, struck_on, struck_later, unplaced_made, unplaced_on}
@@ -47,7 +48,7 @@ use Rattle.pp_walk.specs.Parts.{plain_link}
 use Rattle.pp_list.specs.declared.going.ListGoing.{ListGoing}
 use Rattle.pp_list.specs.Purses.{WritesAside}
 use Rattle.pp_list.specs.Meant.{list_meaning}
-use Rattle.pp_list.specs.Answers.{Calm, MayEnd, Ends, spends_of}
+use Rattle.pp_list.specs.Answers.{Calm, MayEnd, Ends}
 use Rattle.pp_list.specs.Turned.{SameGoing, Part, HasLost, HasRecord}
 use Rattle.pp_list.proofs.Again.{part_before, tries_later}
 use Rattle.pp_list.proofs.Calm.{calm_aside}
@@ -230,7 +231,7 @@ module _ (z : Sizes) (share : ℕ) (g : ListGoing) (f : Fresh) (key value : ℕ)
         };
         last = saw_last from u x t.since.went here (let one = ap (λ (l : List Step). length l) one_made in omega arith);
         sizes = ap (λ (q : ListPass). q.sizes) known_now ∙ (writes.sizes ∙ k.carries.sizes);
-        kept = let kept = k.carries.kept in let spends = ap spends_of call_is in omega arith;
+        kept = let kept = k.carries.kept in let spends = ap (spends_of 1) call_is in omega arith;
         alone = λ looks. absurd (false≢true (sym (insert_changes g.call v k.inserts) ∙ looks));
       }
 

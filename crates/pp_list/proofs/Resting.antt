@@ -13,7 +13,8 @@ use Rattle.pp_base.specs.declared.purse.Purse.{Purse}
 use Rattle.pp_base.specs.Passes.{named_of, IsAtRest}
 use Rattle.pp_lists.specs.Lists.{ListPass}
 use Rattle.pp_walk.specs.Words.{AllEmpty, SameRest}
-use Rattle.pp_list.specs.Purses.{GaveBackOut}
+use Rattle.pp_turns.specs.Purses.{GaveBackOut}
+use Rattle.pp_list.specs.Purses.{out_of}
 
 -- No scan is under way and no frontier word is in use but for a chain, where the same is known of them.
 pub rest_kept : (q q' : ListPass) (p p' : Purse) → SameRest q q' → p'.spent ≡ p.spent → IsAtRest q p → IsAtRest q' p'
@@ -37,11 +38,12 @@ names_zero (w ∷ ws) (suc k) long each = let first : w.named ≡ 0 = each 0 (om
 pub walk_zero : (q : ListPass) (walk : List ℕ) → length q.walk ≡ 5 → map named_of q.walk ≡ walk → AllEmpty q → walk ≡ replicate 5 zero
 walk_zero q walk five is empty = sym is ∙ names_zero q.walk 5 five (λ j lt. (empty j lt).named)
 
-pub gave_back : (f : Fresh) (p p' : Purse) → p.taken ≡ 1 → GaveBack f.number p p' → GaveBackOut (Some f) p p'
+pub gave_back : (f : Fresh) (p p' : Purse) → p.taken ≡ 1 → GaveBack f.number p p' → GaveBackOut (out_of (Some f)) p p'
 gave_back f p p' one g = record {
   taken = let t = g.taken in omega arith;
   long = ap (λ (l : List ℕ). length l) g.free ∙ plus_one p.free.items;
   going = g.going;
+  spent = g.spent;
 }
   where
     plus_one : (xs : List ℕ) → length (xs ++ f.number ∷ []) ≡ length xs + 1

@@ -151,7 +151,7 @@ module _ (z : Sizes) (share : ℕ) (g : ListGoing) (f : Found) (v u w : ListView
   at_purse = aside_at_purse z t.names v u t.steps
 
   calm : Calm z g.call v w
-  calm = calm_both z g.call v u w (calm_aside z g.call v u at_purse) (calm_quiet z g.call u w l.idles)
+  calm = calm_both z g.call v u w (calm_aside z g.call v u at_purse) (calm_quiet z g.call u w l.clears)
 
   short : length p'.free.items < 1
   short = let s = t.ran_out.still_short in let e = ap (λ y. length y.items) l.free in omega arith
@@ -161,7 +161,7 @@ module _ (z : Sizes) (share : ℕ) (g : ListGoing) (f : Found) (v u w : ListView
 
   long : 0 < length (steps_made v w)
   long = let o = t.ran_out in let scan = scan_long o.scan o.few in
-      let e = ap (λ (l : List Step). length l) (stretch_both v u w at_purse.stepped (stepped_made l.idles.steps u w l.idles.did))
+      let e = ap (λ (l : List Step). length l) (stretch_both v u w at_purse.stepped (stepped_made l.clears.steps u w l.clears.did))
       ∙ length-append (steps_made v u) (steps_made u w) in let i = ap (λ (l : List Step). length l) o.is in
       let x = length-append o.earlier (o.scan ++ o.later) in let y = length-append o.scan o.later in omega arith
 
@@ -179,7 +179,7 @@ module _ (z : Sizes) (share : ℕ) (g : ListGoing) (f : Found) (v u w : ListView
       (losing r.0 g.lost) on (saw_last from v w k.0.since.went calm.stepped long) (sizes ∙ x.carries.sizes) stands i.key i.value i.call_is
       (unplaced_on from v w k.0.since.went.number k.0.unplaced calm.unplaced) (omega (arith, zero))
       (absent_on v.known.own.start i.key (log_of w.order) (log_of v.order) (log_begins w.order v.order calm.stepped.order) i.absent) x.below
-      (found_none z 1 from v u w free p q t.names l.idles.steps k.0.since.went t.steps.made l.idles.did t.ran_out same owned)
+      (found_none z 1 from v u w free p q t.names l.clears.steps k.0.since.went t.steps.made l.clears.did t.ran_out same owned)
       (subst (λ (c : Call). LeavesPurse list_meaning (map_sizes z) c (pool_view from free share) (pool_view w p'.free.items share))
       (sym i.call_is)
       (tidy_already list_meaning z refl from v w free share 1 p'.free.items (omega (arith, few_retired)) four (omega (arith, short)) kept))

@@ -58,7 +58,7 @@ use Rattle.pp_list.specs.Going.{HasTaken, MayUnlink, Stands, IsUnder, is_after}
 use Rattle.pp_list.specs.Answers.{MayEnd, Ends}
 use Rattle.pp_list.specs.Turned.{SameGoing, ListTurned}
 use Rattle.pp_list.proofs.Calm.{named_after}
-use Rattle.pp_list.proofs.Closing.{effect_front}
+use Rattle.pp_list.proofs.Closing.{effect_front, taken_settled}
 use Rattle.pp_list.proofs.Reading.{list_over}
 use Rattle.pp_list.proofs.Trying.{flush_steps, long_behind, tried_long}
 
@@ -211,13 +211,18 @@ module _ (z : Sizes) (share : ℕ) (g : ListGoing) (m : Marked) (v u : ListView)
           since = since;
           few = h.few;
           struck = struck_later g.call (Took m.value) from v u h.since.went.number t.after.stepped.order h.struck t.after.unplaced;
-          took = λ y is. ⊎_elim
-              (λ (gone : AreGone z v u). inl (was_detached (IsListed (map_sizes z)) (list_words.opening (map_sizes z))
-              (taken_by (map_sizes z) g.call (steps_made from u)) u u later later (stepped_none u u refl)
-              (sym (append-nil later) ∙ ap (λ (l : List Step). later ++ l) (sym (steps_none u u refl)))
-              (subst (λ (n : ℕ). IsListed (map_sizes z) (replayed (list_words.opening (map_sizes z)) (entries_of u.order)) n → ⊥) (sym n_is)
-              (gone k.0 k.1.1.member))))
-              (λ (miss : HasMissed z v u). inr (miss.0, (in_right miss.0 h.later (steps_made v u) miss.1.0, miss.1.1, miss.1.2))) t.comes;
+          took = λ y is. (
+            ⊎_elim
+                (λ (gone : AreGone z v u). inl (was_detached (IsListed (map_sizes z)) (list_words.opening (map_sizes z))
+                (taken_by (map_sizes z) g.call (steps_made from u)) u u later later (stepped_none u u refl)
+                (sym (append-nil later) ∙ ap (λ (l : List Step). later ++ l) (sym (steps_none u u refl)))
+                (subst (λ (n : ℕ). IsListed (map_sizes z) (replayed (list_words.opening (map_sizes z)) (entries_of u.order)) n → ⊥)
+                (sym n_is)
+                (gone k.0 k.1.1.member))))
+                (λ (miss : HasMissed z v u). inr (miss.0, (in_right miss.0 h.later (steps_made v u) miss.1.0, miss.1.1, miss.1.2)))
+                t.comes,
+            taken_settled (map_sizes z) g.call r.0 (g.lost + t.after.lost) h.early later (steps_made from u) since.read,
+          );
         };
         last = saw_last from v u h.since.went t.after.stepped t.after.some_made;
         sizes = sizes ∙ x.carries.sizes;

@@ -1,16 +1,16 @@
 -- What a call on a list has of its purse, and what its parts make of it.
-use Rattle.std.specs.Prelude.{◌≡◌, ℕ, ◌+◌, ◌≤◌, List, length, Option, Some, None}
+use Rattle.std.specs.Prelude.{◌≡◌, ℕ, ◌+◌, ◌≤◌, Bool, List, length, Option, Some, None}
 use Rattle.pp_link.specs.declared.layout.Sizes.{Sizes}
 use Rattle.pp_pool.specs.declared.fresh.Fresh.{Fresh}
 use Rattle.pp_pool.specs.Taken.{IsPrivate}
 use Rattle.pp_base.specs.declared.purse.Purse.{Purse}
 use Rattle.pp_base.specs.Named.{NamedStep}
-use Rattle.pp_calls.specs.Steps.{SamePurse}
-use Rattle.pp_purse.specs.Purses.{TidiesPurse, RanOut}
+use Rattle.pp_purse.specs.Purses.{RanOut}
 use Rattle.pp_purse.specs.Steps.{PurseSteps}
 use Rattle.pp_lists.specs.Lists.{ListPass}
 use Rattle.pp_lists.specs.Turns.{ListView}
 use Rattle.pp_turns.specs.Causes.{Aside}
+use Rattle.pp_turns.specs.Purses as ends
 use Rattle.pp_walk.specs.Trod.{Idles}
 
 -- how many records are out
@@ -23,27 +23,17 @@ abbrev pub HasOut : ListPass → Purse → Option Fresh → Type 0
 HasOut q p None = p.taken ≡ 0
 HasOut q p (Some f) = IsPrivate q p f.number × (p.taken ≡ 1)
 
--- the record that was out, if there was one, is free again
-pub record GaveBackOut (fresh : Option Fresh) (p p' : Purse) : Type 0 where
-  pub taken : p'.taken ≡ 0
-  pub long : length p'.free.items ≡ length p.free.items + out_of fresh
-  pub going : p'.going ≡ p.going
-
 -- A call that only looked cleared its walk words.
-pub record LooksAway (v w : ListView) (p p' : Purse) : Type 0 where
-  pub idles : Idles v w
-  pub purse : SamePurse v w
-  pub free : p'.free ≡ p.free
+abbrev pub LooksAway : ListView → ListView → Purse → Purse → Type 0
+LooksAway v w p p' = ends.LooksAway Idles v w p p'
 
 -- A call cleared its walk words, gave its record back and tidied.
-pub record TidiesUp (z : Sizes) (share : ℕ) (fresh : Option Fresh) (v w : ListView) (p p' : Purse) : Type 0 where
-  pub between : ListView
-  pub middle : Purse
-  pub idles : Idles v between
-  pub long : length middle.free.items ≡ length p.free.items + out_of fresh
-  pub last : Purse
-  pub tidies : TidiesPurse z share between w middle last
-  pub free : p'.free ≡ last.free
+abbrev pub TidiesUp : Sizes → ℕ → Option Fresh → ListView → ListView → Purse → Purse → Type 0
+TidiesUp z share fresh v w p p' = ends.TidiesUp Idles z share (out_of fresh) v w p p'
+
+-- what ends a call, by whether it only looked
+abbrev pub Leaves : Bool → Sizes → ℕ → Option Fresh → ListView → ListView → Purse → Purse → Type 0
+Leaves looks z share fresh v w p p' = ends.Leaves Idles looks z share (out_of fresh) v w p p'
 
 -- A call that had one of its records out already, or none, has this one out. Of the free ones but for it none is gone.
 pub record TakesOne (z : Sizes) (had : Option Fresh) (f : Fresh) (v w : ListView) (p p' : Purse) : Type 0 where

@@ -4,8 +4,8 @@ ghost use Rattle.std.specs.Prelude.{◌≡◌, true};
 ghost use Rattle.pp_base.specs.Passes.{known, view, Fits, IsSame, IsAtRest};
 ghost use Rattle.pp_turns.specs.Passes.{IsResting};
 ghost use Rattle.pp_walk.specs.Words.{AllEmpty};
-ghost use Rattle.pp_list.specs.Answers.{Leaves};
-ghost use Rattle.pp_list.specs.Purses.{HasOut, GaveBackOut, LooksAway, TidiesUp};
+ghost use Rattle.pp_turns.specs.Purses.{GaveBackOut};
+ghost use Rattle.pp_list.specs.Purses.{HasOut, LooksAway, TidiesUp, Leaves, out_of};
 
 use pp_base::{Pass, Pool};
 use pp_pool::fresh::{Fresh, give_back};
@@ -29,7 +29,7 @@ fn give(pass: &mut Pass<ListShape>, fresh: Option<Fresh>)
     requires rest { IsAtRest (known pass.old.seat) pass.old.purse }
     ensures seat { pass.new.seat ≡ pass.old.seat }
     ensures walk { pass.new.walk ≡ pass.old.walk }
-    ensures gave { GaveBackOut fresh pass.old.purse pass.new.purse }
+    ensures gave { GaveBackOut (out_of fresh) pass.old.purse pass.new.purse }
     ensures rest { IsAtRest (known pass.new.seat) pass.new.purse }
 {
     if let Some(fresh) = fresh {

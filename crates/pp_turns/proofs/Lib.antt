@@ -6,3 +6,5 @@ pub mod Purses
 pub mod Answering
 pub mod Detached
 pub mod CalmSteps
+pub mod Calm
+pub mod Ending

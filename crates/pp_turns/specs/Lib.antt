@@ -2,3 +2,5 @@ pub mod Tallies
 pub mod Turns
 pub mod Causes
 pub mod Passes
+pub mod Purses
+pub mod Answers

@@ -19,7 +19,7 @@ returns-clause-tidies c = let old = c.args.pass.now in let mid = c.rest.new.pass
     let new = c.set_going.new.pass in record {
       between = view given.seat;
       middle = given.purse;
-      idles = subst (λ s. Idles (view old.seat) (view s)) (sym c.give.ensures.seat) c.rest.ensures.idles;
+      clears = subst (λ s. Idles (view old.seat) (view s)) (sym c.give.ensures.seat) c.rest.ensures.idles;
       long = c.give.ensures.gave.long ∙ ap (λ (p : Purse). length p.free.items + out_of c.args.fresh) c.rest.ensures.purse;
       last = done.purse;
       tidies = subst (λ s. TidiesPurse c.args.pool.now.layout old.share (view given.seat) (view s) given.purse done.purse)

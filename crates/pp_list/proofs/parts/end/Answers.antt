@@ -1,7 +1,7 @@
 use Rattle.std.proofs.Common.{Bool, Option, subst, ◌∙◌}
 use Rattle.pp_pool.specs.declared.fresh.Fresh.{Fresh}
 use Rattle.pp_base.specs.Passes.{known, view}
-use Rattle.pp_list.specs.Answers.{Leaves}
+use Rattle.pp_list.specs.Purses.{Leaves}
 use Rattle.pp_list.proofs.Closing.{ended}
 use Rattle.pp_list.proofs.Losing.{four_chains}
 use Rattle.pp_walk.proofs.Lone.{sees_of}

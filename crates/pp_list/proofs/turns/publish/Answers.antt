@@ -85,6 +85,6 @@ returns-in-None-clause-alone c = λ lone. let z = c.args.pool.now.layout in let 
     let takes = c.in-None.ensures.none in let new = c.full.new.pass in let w = view new.seat in
     let sw = sees_of z new.seat _ _ _ _ new.keeping new.run (c.full.ensures.same.sizes ∙ size_u) in
     over_turn z g c.full.new.going w _ c.full.result (ap (λ y. y.lost) c.full.ensures.over) c.full.ensures.done
-    (same_bare z u w su sw l.0.one (quiet_same z u w su sw l.0.one 0 c.full.ensures.looks.idles)
+    (same_bare z u w su sw l.0.one (quiet_same z u w su sw l.0.one 0 c.full.ensures.looks.clears)
     (same_bare z v u sv su l.0.one
     (named_same z v u sv su l.0.one takes.names takes.steps.made (λ s i. purse_calm z s (takes.steps.each s i))) l.0.bare))
