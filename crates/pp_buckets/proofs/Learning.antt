@@ -19,7 +19,7 @@ use Rattle.pp_lists.specs.Turns.{ListView}
 use Rattle.pp_lists.specs.Losses.{list_reader}
 use Rattle.pp_turns.specs.Tallies.{losing, effected}
 use Rattle.pp_turns.specs.Turns.{Since, Unplaced, WasAbsent}
-use Rattle.pp_turns.proofs.Placing.{waits_learnt, since_learnt, unplaced_on, struck_later, absent_on}
+use Rattle.pp_turns.proofs.Placing.{steps_learnt, waits_learnt, since_learnt, unplaced_on, struck_later, absent_on}
 use Rattle.pp_walk.specs.Roles.{IsWalk, IsFound}
 use Rattle.pp_walk.specs.Effects.{MayFill}
 use Rattle.pp_rule.specs.Views.{slot, value_of}
@@ -33,10 +33,6 @@ use Rattle.pp_list.specs.Purses.{HasOut}
 module _ (z : Sizes) (share : ℕ) (from v w : ListView) (same : w.known ≡ v.known) (order : BeginsWith w.order v.order)
     (made : made_by v.known.number w.order ≡ made_by v.known.number v.order)
     (placed : placed_by v.known.number w.order ≡ placed_by v.known.number v.order) where
-  steps_same : Went from v → steps_made from w ≡ steps_made from v
-  steps_same g = let now : made_by from.known.number w.order ≡ made_by from.known.number v.order =
-      subst (λ (p : ℕ). made_by p w.order ≡ made_by p v.order) g.number made in cc
-
   unplaced_still : Went from v → Unplaced from v → Unplaced from w
   unplaced_still g u = unplaced_on from v w g.number u placed
 
@@ -60,7 +56,7 @@ module _ (z : Sizes) (share : ℕ) (from v w : ListView) (same : w.known ≡ v.k
         t.since);
     few = t.few;
     struck = struck_later call (Took x) from v w t.since.went.number order t.struck placed;
-    taken = ap (λ (l : List Step). taken_by (map_sizes z) call l) (steps_same t.since.went) ∙ t.taken;
+    taken = ap (λ (l : List Step). taken_by (map_sizes z) call l) (steps_learnt from v w same order made placed t.since.went) ∙ t.taken;
     changing = t.changing;
   }
 

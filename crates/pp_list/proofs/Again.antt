@@ -27,7 +27,8 @@ use Rattle.pp_list.specs.Answers.{Calm}
 use Rattle.pp_list.specs.Turned.{Part, HasLost}
 use Rattle.pp_list.proofs.Arriving.{idles_quiet}
 use Rattle.pp_list.proofs.Calm.{calm_quiet}
-use Rattle.pp_list.proofs.Treading.{carries_rest, on_by, done_by}
+use Rattle.pp_turns.proofs.Turning.{on_by, done_by}
+use Rattle.pp_list.proofs.Treading.{carries_rest}
 
 -- A last part, with the quiet steps before it.
 pub part_before : (z : Sizes) (share : ℕ) (Known Known' : ListView → List ℕ → Type 0) (g g' : ListGoing) (v u w : ListView) (p' : Purse)

@@ -1,17 +1,14 @@
 -- A turn of a call on a list that was lost.
-use Rattle.std.proofs.Common.{◌≡◌, ℕ, ◌+◌, ◌<◌, ◌≤◌, Bool, true, false, List, length, map, refl, sym, ap, ◌∙◌, subst, inl, arith}
-use Rattle.std.proofs.lemmas.List.{length-map}
+use Rattle.std.proofs.Common.{◌≡◌, ℕ, ◌+◌, ◌<◌, Bool, true, false, List, refl, sym, ◌∙◌, subst, inl, arith}
 use Rattle.std.proofs.Math.Bool.{false≢true}
 use Rattle.pp_link.specs.declared.layout.Sizes.{Sizes}
 use Rattle.pp_model.specs.declared.Answer.TheVariants.{Lost}
 use Rattle.pp_model.specs.declared.Turned.{Turned}
 use Rattle.pp_model.specs.declared.Turned.TheVariants.{On, Done}
 use Rattle.pp_model.specs.Calls.{key_of}
-use Rattle.pp_base.specs.declared.purse.InHand.{InHand}
 use Rattle.pp_base.specs.declared.purse.Purse.{Purse}
-use Rattle.pp_base.specs.Passes.{IsAtRest, in_hand_of}
+use Rattle.pp_base.specs.Passes.{IsAtRest}
 use Rattle.pp_calls.proofs.Growing.{stepped_none}
-use Rattle.pp_lists.specs.Lists.{ListPass}
 use Rattle.pp_lists.specs.Walks.{bucket}
 use Rattle.pp_lists.specs.Turns.{ListView}
 use Rattle.pp_walk.specs.declared.walk.Walk.{Walk}
@@ -21,10 +18,6 @@ use Rattle.pp_list.specs.declared.going.Next.TheVariants.{Walks}
 use Rattle.pp_list.specs.Going.{Begun, Tries}
 use Rattle.pp_list.specs.Answers.{Ends}
 use Rattle.pp_list.specs.Turned.{SameGoing, Part, HasLost}
-
--- a pass has as many chains in hand as its purse knows
-pub four_chains : (q : ListPass) (p : Purse) → map in_hand_of q.chains ≡ p.chains.items → length p.chains.items ≤ 4 → length q.chains ≤ 4
-four_chains q p is few = let e = sym (length-map q.chains in_hand_of) ∙ ap (λ (l : List InHand). length l) is in omega arith
 
 module _ (z : Sizes) (share : ℕ) (g : ListGoing) (v : ListView) (p : Purse) (unstruck : g.struck ≡ false) where
   begun_again : (fresh : Bool) → fresh ≡ false → (from : ListView) → Tries z g.call (g.lost + 1) from v

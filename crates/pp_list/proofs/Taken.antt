@@ -50,7 +50,8 @@ use Rattle.pp_list.specs.Answers.{Calm}
 use Rattle.pp_list.specs.Turned.{Part, HasRecord, ListTurned}
 use Rattle.pp_list.proofs.Again.{tries_later}
 use Rattle.pp_list.proofs.Calm.{calm_aside, calm_quiet, calm_both}
-use Rattle.pp_list.proofs.Treading.{went_by, on_by, done_by}
+use Rattle.pp_turns.proofs.Turning.{on_by, done_by}
+use Rattle.pp_list.proofs.Treading.{went_by}
 use Rattle.pp_list.proofs.Trying.{inserts_later, insert_changes, fill_walk}
 
 -- the call, without its record

@@ -3,12 +3,12 @@ use Rattle.std.specs.Prelude.{◌≡◌, length}
 use Rattle.pp_link.specs.declared.layout.Sizes.{Sizes}
 use Rattle.pp_model.specs.declared.Turned.{Turned}
 use Rattle.pp_model.specs.History.{contents_of}
-use Rattle.pp_model.specs.MapCalls.{IfOn, IfDone}
 use Rattle.pp_rule.specs.Causes.{CountsAttached}
 use Rattle.pp_rule.specs.Orders.{log_of}
 use Rattle.pp_rule.specs.Reached.{Reached}
 use Rattle.pp_lists.specs.Clean.{IsBare}
 use Rattle.pp_lists.specs.Turns.{ListView}
+use Rattle.pp_turns.specs.Turned.{LoneTurned}
 use Rattle.pp_walk.specs.Lone.{words_of, IsLone}
 use Rattle.pp_walk.specs.Bare.{LoneEnd, LoneRemoved}
 use Rattle.pp_list.specs.declared.going.ListGoing.{ListGoing}
@@ -30,10 +30,8 @@ LoneAt z (Unlinks m) v = LoneMarked z m v
 LoneAt z Over v = ⊥
 
 -- A turn of it is not lost. After the last one no record that can be reached is removed.
-pub record LoneTurn (z : Sizes) (g g' : ListGoing) (now : ListView) (result : Turned) : Type 0 where
-  pub lost : g'.lost ≡ g.lost
-  pub on : IfOn result (LoneAt z g'.next now)
-  pub done : IfDone result (λ _. IsBare z (words_of z now))
+abbrev pub LoneTurn : Sizes → ListGoing → ListGoing → ListView → Turned → Type 0
+LoneTurn z g g' now result = LoneTurned (LoneAt z g'.next now) (IsBare z (words_of z now)) g.lost g'.lost result
 
 -- Where the pass is alone, and no record of a removed pair was attached as the call began, no turn of it was lost so far.
 abbrev pub LoneSince : Sizes → ListGoing → ListView → ListView → Type 0

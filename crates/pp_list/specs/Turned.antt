@@ -1,22 +1,23 @@
 -- What a part of a turn makes of a call that is going on a list.
-use Rattle.std.specs.Prelude.{◌≡◌, ◌⊎◌, ℕ, ◌+◌, ◌<◌, true, false, List, length, Some, None}
+use Rattle.std.specs.Prelude.{◌≡◌, ◌⊎◌, ℕ, ◌+◌, ◌<◌, true, false, List, Some, None}
 use Rattle.pp_link.specs.declared.layout.Sizes.{Sizes}
 use Rattle.pp_model.specs.declared.Reply.{Reply}
 use Rattle.pp_model.specs.declared.Turned.{Turned}
 use Rattle.pp_model.specs.Calls.{key_of, changes, reply_at}
-use Rattle.pp_model.specs.MapCalls.{Answered, IfOn, IfDone, WentOn, took_effect}
+use Rattle.pp_model.specs.MapCalls.{Answered, IfOn, IfDone, took_effect}
 use Rattle.pp_rule.specs.Orders.{log_of}
 use Rattle.pp_base.specs.declared.purse.Purse.{Purse}
 use Rattle.pp_base.specs.Named.{NamedStep, Made}
 use Rattle.pp_calls.specs.PoolViews.{pool_view}
 use Rattle.pp_calls.specs.Steps.{Went, Stepped, HasOwn, StandsThen}
-use Rattle.pp_shelf.specs.Runs.{map_sizes, steps_made}
+use Rattle.pp_shelf.specs.Runs.{map_sizes}
 use Rattle.pp_base.specs.Passes.{IsAtRest}
 use Rattle.pp_lists.specs.Lists.{ListPass}
 use Rattle.pp_lists.specs.Walks.{IsRight, bucket}
 use Rattle.pp_lists.specs.Turns.{ListView}
 use Rattle.pp_lists.specs.Losses.{list_reader}
 use Rattle.pp_turns.specs.Tallies.{losing}
+use Rattle.pp_turns.specs.Turned.{HasTurned}
 use Rattle.pp_turns.specs.Turns.{Since, Unplaced, Struck, Replied, SawLast}
 use Rattle.pp_walk.specs.declared.walk.Found.{Found}
 use Rattle.pp_walk.specs.Roles.{found_in, is_look, IsFound}
@@ -106,16 +107,6 @@ pub record HasEnded (z : Sizes) (g : ListGoing) (q : ListPass) (p : Purse) (f : 
   pub none : is_look g.call ≡ true → g.fresh ≡ None
 
 -- What a turn makes of it.
-pub record ListTurned (z : Sizes) (share : ℕ) (g g' : ListGoing) (v w : ListView) (p p' : Purse) (result : Turned) : Type 0 where
-  pub stepped : Stepped v w
-  pub some_made : 0 < length (steps_made v w)
-  pub stands : HasOwn w.order → StandsThen v → StandsThen w
-  pub same : SameGoing g g'
-  pub stays : g.struck ≡ true → g'.struck ≡ true
-  pub strikes : g.struck ≡ false → g'.struck ≡ true → (said : Reply) × Struck g.call said v w
-  pub struck : IfDone result (λ answer. g'.struck ≡ took_effect answer)
-  pub went : IfOn result (WentOn (going_of v.known g) (going_of w.known g'))
-  pub goes_on : IfOn result ((from : ListView) (free : List ℕ) → IsUnder z share g v p from free → IsUnder z share g' w p' from free)
-  pub answered : IfDone result (λ answer. (from : ListView) (free : List ℕ) → IsUnder z share g v p from free → StandsThen w
-      → Answered list_meaning (map_sizes z) g.call g.races (pool_view from free share) (pool_view w p'.free.items share) answer
-      g'.lost)
+abbrev pub ListTurned : Sizes → ℕ → ListGoing → ListGoing → ListView → ListView → Purse → Purse → Turned → Type 0
+ListTurned z share g g' v w p p' result = HasTurned list_meaning z share (SameGoing g g') (IsUnder z share g v p) (IsUnder z share g' w p')
+    (going_of v.known g) (going_of w.known g') v w p'.free.items result

@@ -6,5 +6,7 @@ pub mod Purses
 pub mod Answering
 pub mod Detached
 pub mod CalmSteps
+pub mod Turning
 pub mod Calm
 pub mod Ending
+pub mod Resting

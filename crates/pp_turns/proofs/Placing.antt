@@ -154,7 +154,8 @@ module _ {W : Type 0} (from v w : SeatView Change Placed W) (same : w.known ≡ 
   went : Went from v → Went from w
   went g = went_learnt from v w g same order made placed_same
 
-  steps_learnt : Went from v → steps_made from w ≡ steps_made from v
+  -- its own steps stay
+  pub steps_learnt : Went from v → steps_made from w ≡ steps_made from v
   steps_learnt g = let now : made_by from.known.number w.order ≡ made_by from.known.number v.order =
       subst (λ (p : ℕ). made_by p w.order ≡ made_by p v.order) g.number made in cc
 

@@ -3,7 +3,7 @@ use Rattle.pp_pool.specs.declared.fresh.Fresh.{Fresh}
 use Rattle.pp_base.specs.Passes.{known, view}
 use Rattle.pp_list.specs.Purses.{Leaves}
 use Rattle.pp_list.proofs.Closing.{ended}
-use Rattle.pp_list.proofs.Losing.{four_chains}
+use Rattle.pp_turns.proofs.Resting.{four_chains}
 use Rattle.pp_walk.proofs.Lone.{sees_of}
 use Rattle.pp_list.proofs.Alone.{leaves_bare}
 use Rattle.pp_list.proofs.parts.end.Goals as goal

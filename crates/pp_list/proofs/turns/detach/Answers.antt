@@ -7,7 +7,7 @@ use Rattle.pp_calls.proofs.Remaining.{stands_made}
 use Rattle.pp_walk.specs.Effects.{DetachesSo}
 use Rattle.pp_list.specs.Turned.{HasLost}
 use Rattle.pp_list.proofs.Arriving.{holds_first}
-use Rattle.pp_list.proofs.Losing.{four_chains}
+use Rattle.pp_turns.proofs.Resting.{four_chains}
 use Rattle.pp_list.proofs.Trying.{detached_on, detach_lost, at_detach, unstruck_at, missed_holds, tried_long}
 use Rattle.pp_list.proofs.Treading.{turned_by, lost_as}
 use Rattle.pp_list.specs.declared.going.Next.{Next}

@@ -6,7 +6,7 @@ use Rattle.pp_calls.proofs.Purses.{same_share}
 use Rattle.pp_list.specs.declared.going.Next.TheVariants.{Over}
 use Rattle.pp_list.specs.Purses.{TakesOne, TakesNone}
 use Rattle.pp_list.specs.Turned.{Part, HasRecord, ListTurned}
-use Rattle.pp_list.proofs.Losing.{four_chains}
+use Rattle.pp_turns.proofs.Resting.{four_chains}
 use Rattle.pp_list.proofs.Taken.{bare, not_struck, inserts_now, put_turned, full_turned}
 use Rattle.std.proofs.Common.{List}
 use Rattle.pp_model.specs.Calls.{key_of}

@@ -7,7 +7,7 @@ use Rattle.pp_rule.specs.Steps.{clearing}
 use Rattle.pp_rule.proofs.Made.{known_after}
 use Rattle.pp_lists.specs.Lists.{ListPass, list_forget}
 use Rattle.pp_walk.specs.Effects.{DetachesSo}
-use Rattle.pp_list.proofs.Losing.{four_chains}
+use Rattle.pp_turns.proofs.Resting.{four_chains}
 use Rattle.pp_list.proofs.Unlinking.{tries_hit, tries_miss}
 use Rattle.std.proofs.Common.{true≢false}
 use Rattle.pp_base.specs.declared.source.Side.TheVariants.{Left}

@@ -7,7 +7,8 @@ use Rattle.pp_lists.specs.Walks.{bucket}
 use Rattle.pp_walk.proofs.Lone.{sees_of}
 use Rattle.pp_list.specs.Begun.{BeginsOn}
 use Rattle.pp_list.proofs.LoneGoing.{lone_begun}
-use Rattle.pp_buckets.proofs.Beginning.{under_begun, all_empty, rest_going}
+use Rattle.pp_turns.proofs.Resting.{rest_going}
+use Rattle.pp_buckets.proofs.Beginning.{under_begun, all_empty}
 use Rattle.pp_buckets.proofs.calls.BucketsMapCalls.begin.Goals as goal
 
 pub returns-clause-going : goal.returns-clause-going
