@@ -37,9 +37,8 @@ use Rattle.pp_seek.specs.Trails.{Clears}
 use Rattle.pp_seek.proofs.Lone.{run_of, state_at, stands_at, edge_plain, cell_is}
 use Rattle.pp_seek.proofs.LoneCalm.{calm_made, silent_calm, trail_same}
 use Rattle.pp_tree_calls.specs.declared.going.TreeGoing.{TreeGoing}
-use Rattle.pp_tree_calls.specs.Answers.{Leaves}
 use Rattle.pp_tree_calls.specs.Lone.{LoneAt, LoneTurn}
-use Rattle.pp_tree_calls.specs.Purses.{TwoRecords, PutsAway}
+use Rattle.pp_tree_calls.specs.Purses.{TwoRecords, Leaves, PutsAway}
 use Rattle.pp_tree_calls.specs.Turned.{Idles}
 
 module _ (z : Sizes) (v w : TreeView) (sv : Sees z v) (sw : Sees z w) (one : z.passes ≡ 1) where

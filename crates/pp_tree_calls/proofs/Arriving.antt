@@ -43,16 +43,18 @@ use Rattle.pp_turns.specs.Turns.{Since, Replied}
 use Rattle.pp_turns.proofs.Placing.{replied_later, unplaced_on, after_longer}
 use Rattle.pp_turns.proofs.Stretches.{saw_on}
 use Rattle.pp_tree_turns.specs.Walked.{Walked, tree_reader, TreeTally, moved}
-use Rattle.pp_tree_turns.specs.Causes.{tree_meaning, flagged_leaf, ReadsValueOf, EndedElsewhere}
+use Rattle.pp_tree_turns.specs.Causes.{tree_words, tree_causes, tree_meaning, flagged_leaf, ReadsValueOf, EndedElsewhere}
 use Rattle.pp_tree_turns.proofs.Exchanges.{tags_beside, tags_again, across_twice, side_two}
 use Rattle.pp_tree_calls.specs.declared.going.TreeGoing.{TreeGoing}
 use Rattle.pp_tree_calls.specs.declared.going.Next.{Next}
 use Rattle.pp_tree_calls.specs.declared.going.Next.TheVariants.{Publishes, Flags, Tags, Over}
 use Rattle.pp_tree_calls.specs.Purses.{TwoRecords, HasOut}
-use Rattle.pp_tree_calls.specs.Going.{is_look, kind_of, spot_of, upper_at, HasTaken, Tries, Goes}
+use Rattle.pp_turns.specs.Answers.{is_look, SaysBy}
+use Rattle.pp_tree_calls.specs.Going.{kind_of, spot_of, upper_at, HasTaken, Tries, Goes}
 use Rattle.pp_tree_calls.specs.Going.{Stands}
-use Rattle.pp_tree_calls.specs.Answers.{SaysBy, Ends}
+use Rattle.pp_tree_calls.specs.Answers.{Ends}
 use Rattle.pp_tree_calls.specs.Turned.{SameGoing, Part, EndedAt, found_by, Idles, HasArrived, HasEnded}
+use Rattle.pp_tree_calls.proofs.Closing.{leaf_settled}
 use Rattle.pp_tree_calls.proofs.Losing.{ends_high}
 use Rattle.pp_tree_calls.proofs.Lasting.{counts_on, losing_on, taken_on, carries_on}
 
@@ -192,8 +194,8 @@ module _ (z : Sizes) (share : ℕ) (g : TreeGoing) (s : Sought) (v : TreeView) (
       → Part z share (HasArrived z share g s v p) g g' v w p' result
   arrived_says w g' p' result said over off few is plain done e =
       subst (λ (r : Turned). Part z share (HasArrived z share g s v p) g g' v w p' r) (sym done) record {
-        stepped = e.aside.stepped;
-        stands = e.aside.stands;
+        stepped = e.calm.stepped;
+        stands = e.calm.stands;
         same = over_same g g' over;
         struck = ap (λ x. x.struck) over ∙ (off ∙ sym plain);
         advances = tt;
@@ -203,13 +205,14 @@ module _ (z : Sizes) (share : ℕ) (g : TreeGoing) (s : Sought) (v : TreeView) (
             let lost : l.lost ≡ g.lost = sym (ap (λ (y : TreeTally). lost_of y) l.is) ∙ k.counts.lost_is in
             told_as tree_meaning (map_sizes z) g.call g.races (pool_view from free share) (pool_view w p'.free.items share)
             (Said said) l.lost g'.lost (lost ∙ sym (ap (λ x. x.lost) over)) (e.answered from free l.lost record {
-              by = subst (λ (b : Bool). SaysBy b z g.races g.call said l.lost from v) (sym plain) record {
-                start = v.known.own.start;
-                memory = l.memory;
-                since = subst (λ (x : TreeTally). Since tree_reader (map_sizes z) g.call v.known.own.start x from v) l.is k.counts.since;
-                few = omega (arith, few, lost);
-                replied = subst (λ (r : Reply). Replied g.call r v.known.own.start from v) is (k.settled off (ap changes is ∙ plain));
-              };
+              by = subst (λ (b : Bool). SaysBy tree_words tree_causes (map_sizes z) g.races g.call b said l.lost from v)
+                  (sym plain) record {
+                    start = v.known.own.start;
+                    memory = l.memory;
+                    since = subst (λ (x : TreeTally). Since tree_reader (map_sizes z) g.call v.known.own.start x from v) l.is k.counts.since;
+                    few = omega (arith, few, lost);
+                    replied = subst (λ (r : Reply). Replied g.call r v.known.own.start from v) is (k.settled off (ap changes is ∙ plain));
+                  };
               last = k.last;
               sizes = k.carries.sizes;
               kept = let few = k.carries.kept in omega arith;
@@ -246,8 +249,8 @@ module _ (z : Sizes) (share : ℕ) (g : TreeGoing) (s : Sought) (v : TreeView) (
       → Part z share (HasArrived z share g s v p) g g' v w p' result
   arrived_took w g' p' result over on other done e =
       subst (λ (r : Turned). Part z share (HasArrived z share g s v p) g g' v w p' r) (sym done) record {
-        stepped = e.aside.stepped;
-        stands = e.aside.stands;
+        stepped = e.calm.stepped;
+        stands = e.calm.stands;
         same = over_same g g' over;
         struck = ap (λ x. x.struck) over ∙ on;
         advances = tt;
@@ -272,7 +275,7 @@ module _ (z : Sizes) (share : ℕ) (g : TreeGoing) (s : Sought) (v : TreeView) (
                 took = λ y is. (
                   inr (inr (subst (EndedElsewhere (map_sizes z) g.call)
                       (ap (λ (y : TreeTally). later_of y) h.is) x)),
-                  h.some,
+                  leaf_settled (steps_made from v) h.some,
                 );
               };
               last = k.last;

@@ -55,10 +55,12 @@ use Rattle.pp_tree_calls.specs.declared.going.TreeGoing.{TreeGoing}
 use Rattle.pp_tree_calls.specs.declared.going.Next.{Next}
 use Rattle.pp_tree_calls.specs.declared.going.Next.TheVariants.{Flags, Tags, Splices, Over}
 use Rattle.pp_tree_calls.specs.Purses.{TwoRecords, HasOut}
-use Rattle.pp_tree_calls.specs.Going.{is_look, kind_of, spot_of, upper_at, going_of, IsLosing, HasTaken, Tries}
+use Rattle.pp_turns.specs.Answers.{is_look}
+use Rattle.pp_tree_calls.specs.Going.{kind_of, spot_of, upper_at, going_of, IsLosing, HasTaken, Tries}
 use Rattle.pp_tree_calls.specs.Going.{TakesWith, Stands, IsUnder}
 use Rattle.pp_tree_calls.specs.Answers.{MayEnd, Ends}
 use Rattle.pp_tree_calls.specs.Turned.{Part, HasMissed, TreeTurned}
+use Rattle.pp_tree_calls.proofs.Closing.{leaf_settled}
 use Rattle.pp_tree_calls.proofs.Losing.{ends_high}
 use Rattle.pp_tree_calls.proofs.Lasting.{counts_on, tries_on, carries_on}
 use Rattle.pp_tree_calls.proofs.Treading.{some_named}
@@ -103,9 +105,11 @@ module _ (z : Sizes) (share : ℕ) (g : TreeGoing) (v u : TreeView) (p p' : Purs
     stepped = s;
     some_made = some;
     stands = stands;
-    call = refl;
-    races = refl;
-    high = subst (λ (o : Option Spot). upper_at o ≤ 2 ^ 64) (sym head) (omega arith);
+    same = record {
+      call = refl;
+      races = refl;
+      high = subst (λ (o : Option Spot). upper_at o ≤ 2 ^ 64) (sym head) (omega arith);
+    };
     stays = λ on. on;
     strikes = λ off on. absurd (false≢true (sym off ∙ on));
     struck = tt;
@@ -220,8 +224,8 @@ pub end_part : (z : Sizes) (share : ℕ) (g g' : TreeGoing) (answer : Answer) (u
 end_part z share g g' answer u w p p' result over done took e =
     subst (λ (r : Turned). Part z share (λ from free. MayEnd z share g.races g.call g.records answer g.lost from u free p) g g' u w p' r)
     (sym done) record {
-      stepped = e.aside.stepped;
-      stands = e.aside.stands;
+      stepped = e.calm.stepped;
+      stands = e.calm.stands;
       same = over_same g g' over;
       struck = ap (λ x. x.struck) over ∙ took;
       advances = tt;
@@ -351,9 +355,11 @@ module _ (z : Sizes) (share : ℕ) (g : TreeGoing) (s : Sought) (v u : TreeView)
     stepped = f.names.stepped;
     some_made = some_named _ _ (steps_made v u) f.names.named;
     stands = f.names.stands;
-    call = refl;
-    races = refl;
-    high = omega arith;
+    same = record {
+      call = refl;
+      races = refl;
+      high = omega arith;
+    };
     stays = λ on. refl;
     strikes = λ off on. (Took value, f.struck);
     struck = tt;
@@ -378,7 +384,7 @@ module _ (z : Sizes) (share : ℕ) (g : TreeGoing) (s : Sought) (v u : TreeView)
           since = subst (λ (y : TreeTally). Since tree_reader (map_sizes z) g.call u.known.own.start y from u) now.is t.counts.since;
           few = now.few;
           struck = now.struck;
-          took = λ x is. (why, now.some);
+          took = λ x is. (why, leaf_settled (steps_made from u) now.some);
         };
         last = saw_last from v u k.0.counts.since.went e.names.stepped (some_in e.flush _ _ (steps_made v u) e.names.named);
         sizes = sizes ∙ under.carries.sizes;

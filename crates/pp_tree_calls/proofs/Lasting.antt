@@ -6,13 +6,13 @@ use Rattle.pp_link.specs.declared.layout.Sizes.{Sizes}
 use Rattle.pp_model.specs.declared.Call.{Call}
 use Rattle.pp_model.specs.declared.Reply.TheVariants.{Took}
 use Rattle.pp_model.specs.declared.Turned.{Turned}
-use Rattle.pp_model.specs.declared.Turned.TheVariants.{On, Done}
+use Rattle.pp_model.specs.MapCalls.{Answered}
 use Rattle.pp_model.specs.declared.steps.Step.{Step}
 use Rattle.pp_model.specs.Pass.{MapSizes}
 use Rattle.pp_rule.specs.Lists.{IsIn}
 use Rattle.pp_base.specs.declared.purse.Purse.{Purse}
 use Rattle.pp_base.specs.Named.{NamedStep}
-use Rattle.pp_calls.specs.PoolViews.{is_writing}
+use Rattle.pp_calls.specs.PoolViews.{is_writing, pool_view}
 use Rattle.pp_calls.specs.Steps.{Stepped, HasOwn, StandsThen, WriteNone, SamePurse}
 use Rattle.pp_calls.proofs.Growing.{kinds_none, stepped_both}
 use Rattle.pp_shelf.specs.Runs.{map_sizes, steps_made}
@@ -22,9 +22,10 @@ use Rattle.pp_turns.specs.Tallies.{losing, effected, lost_of, memory_of}
 use Rattle.pp_turns.specs.Turns.{Since, Unplaced}
 use Rattle.pp_turns.proofs.Placing.{unplaced_on, struck_later}
 use Rattle.pp_turns.proofs.Purses.{alone_on}
+use Rattle.pp_turns.proofs.Turning.{on_by, done_by}
 use Rattle.pp_turns.proofs.Stretches.{saw_on, since_on, steps_both, own_before}
 use Rattle.pp_tree_turns.specs.Walked.{Walked, tree_reader, TreeTally, moved}
-use Rattle.pp_tree_turns.specs.Causes.{flagged_leaf, ReadsValueOf}
+use Rattle.pp_tree_turns.specs.Causes.{tree_meaning, flagged_leaf, ReadsValueOf}
 use Rattle.pp_tree_turns.specs.Turning.{Names, Walks}
 use Rattle.pp_tree_turns.proofs.Counting.{flagged_on, reads_on, none_walks, aside_counted}
 use Rattle.pp_tree_turns.proofs.Seeks.{trail_names}
@@ -37,7 +38,8 @@ use Rattle.pp_seek.specs.declared.seek.Spot.{Spot}
 use Rattle.pp_tree_calls.proofs.Resting.{aside_clears, or_clear, same_purse}
 use Rattle.pp_tree_calls.proofs.Closing.{clears_none}
 use Rattle.pp_tree_calls.specs.declared.going.TreeGoing.{TreeGoing}
-use Rattle.pp_tree_calls.specs.Going.{is_look, Counts, IsLosing, HasTaken, Tries, Carries}
+use Rattle.pp_turns.specs.Answers.{is_look}
+use Rattle.pp_tree_calls.specs.Going.{Counts, IsLosing, HasTaken, Tries, Carries, IsUnder}
 use Rattle.pp_tree_calls.specs.Purses.{TwoRecords, HasOut}
 use Rattle.pp_tree_calls.specs.Turned.{Part, HasLost, HasMissed}
 
@@ -126,25 +128,18 @@ pub part_after : (z : Sizes) (share : ℕ) (Known Later : TreeView → List ℕ 
     (result : Turned) → Stepped v u → (HasOwn u.order → StandsThen v → StandsThen u)
     → ((from : TreeView) (free : List ℕ) → Known from free → Later from free)
     → Part z share Later g g' u w p' result → Part z share Known g g' v w p' result
-part_after z share Known Later g g' v u w p' On s stands knows a = record {
-  stepped = stepped_both v u w s a.stepped;
-  stands = λ own st. a.stands own (stands (own_before u w a.stepped own) st);
-  same = a.same;
-  struck = tt;
-  advances = a.advances;
-  high = a.high;
-  goes_on = λ from free k. a.goes_on from free (knows from free k);
-  answered = tt;
-}
-part_after z share Known Later g g' v u w p' (Done answer) s stands knows a = record {
+part_after z share Known Later g g' v u w p' result s stands knows a = record {
   stepped = stepped_both v u w s a.stepped;
   stands = λ own st. a.stands own (stands (own_before u w a.stepped own) st);
   same = a.same;
   struck = a.struck;
-  advances = tt;
+  advances = a.advances;
   high = a.high;
-  goes_on = tt;
-  answered = λ from free k. a.answered from free (knows from free k);
+  goes_on = on_by result _ ((from : TreeView) (free : List ℕ) → Known from free → IsUnder z share g' w p' from free)
+      (λ each from free k. each from free (knows from free k)) a.goes_on;
+  answered = done_by result _ (λ answer. (from : TreeView) (free : List ℕ) → Known from free → StandsThen w
+      → Answered tree_meaning (map_sizes z) g.call g.races (pool_view from free share) (pool_view w p'.free.items share) answer g'.lost)
+      (λ answer each from free k. each from free (knows from free k)) a.answered;
 }
 
 -- the same records are out, where the pass owns the same ones

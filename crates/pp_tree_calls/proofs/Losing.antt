@@ -2,7 +2,7 @@
 use Rattle.std.proofs.Common.{◌≡◌, ℕ, ◌+◌, ◌<◌, ◌≤◌, ◌^◌, Bool, true, false, List, length, map, refl, sym, ap, ◌∙◌, subst}
 use Rattle.std.proofs.Common.{inl, inr, arith}
 use Rattle.std.proofs.lemmas.List.{length-map}
-use Rattle.pp_tree_turns.specs.Causes.{tree_meaning}
+use Rattle.pp_tree_turns.specs.Causes.{tree_words, tree_causes, tree_meaning}
 use Rattle.pp_calls.specs.PoolViews.{pool_view}
 use Rattle.pp_link.specs.declared.layout.Sizes.{Sizes}
 use Rattle.pp_model.specs.declared.Answer.TheVariants.{Said, Lost}
@@ -13,7 +13,7 @@ use Rattle.pp_base.specs.declared.purse.InHand.{InHand}
 use Rattle.pp_base.specs.declared.purse.Purse.{Purse}
 use Rattle.pp_base.specs.Passes.{IsAtRest, in_hand_of}
 use Rattle.pp_calls.proofs.Growing.{stepped_none}
-use Rattle.pp_shelf.specs.Runs.{map_sizes}
+use Rattle.pp_shelf.specs.Runs.{map_sizes, steps_made}
 use Rattle.pp_seek.specs.declared.seek.Seek.{Seek}
 use Rattle.pp_seek.specs.Seeking.{Seeks as IsSeek}
 use Rattle.pp_trees.specs.Trees.{inf0}
@@ -28,9 +28,11 @@ use Rattle.pp_tree_turns.specs.Turning.{Minds}
 use Rattle.pp_tree_calls.specs.declared.going.TreeGoing.{TreeGoing}
 use Rattle.pp_tree_calls.specs.declared.going.Next.{Next}
 use Rattle.pp_tree_calls.specs.declared.going.Next.TheVariants.{Seeks, Over}
-use Rattle.pp_tree_calls.specs.Going.{is_look, upper_at, spot_of, Begun, Tries, Goes, HasTaken}
-use Rattle.pp_tree_calls.specs.Answers.{SaysStruck, Ends}
+use Rattle.pp_turns.specs.Answers.{is_look, SaysStruck}
+use Rattle.pp_tree_calls.specs.Going.{upper_at, spot_of, Begun, Tries, Goes, HasTaken}
+use Rattle.pp_tree_calls.specs.Answers.{Ends}
 use Rattle.pp_tree_calls.specs.Turned.{SameGoing, Part, HasLost}
+use Rattle.pp_tree_calls.proofs.Closing.{leaf_settled}
 
 -- a pass has as many chains in hand as its purse knows
 pub four_chains : (q : TreePass) (p : Purse) → map in_hand_of q.chains ≡ p.chains.items → length p.chains.items ≤ 4 → length q.chains ≤ 4
@@ -39,7 +41,7 @@ four_chains q p is few = let e = sym (length-map q.chains in_hand_of) ∙ ap (λ
 -- a call that has taken a pair says so
 pub says_took : (z : Sizes) (g : TreeGoing) (t : TreeTally) (start : ℕ) (from v : TreeView)
     → Since tree_reader (map_sizes z) g.call start t from v → (h : HasTaken (map_sizes z) g.call g.races g.taken t from v)
-    → (lost_of t ≡ g.races) → SaysStruck z g.races g.call (Took g.taken) h.lost from v
+    → (lost_of t ≡ g.races) → SaysStruck tree_words tree_causes (map_sizes z) g.races g.call (Took g.taken) h.lost from v
 says_took z g t start from v since h all = record {
   start = start;
   memory = h.memory;
@@ -48,7 +50,7 @@ says_took z g t start from v since h all = record {
   since = subst (λ (x : TreeTally). Since tree_reader (map_sizes z) g.call start x from v) h.is since;
   few = h.few;
   struck = h.struck;
-  took = λ x is. (inr (inl (sym (ap (λ (y : TreeTally). lost_of y) h.is) ∙ all)), h.some);
+  took = λ x is. (inr (inl (sym (ap (λ (y : TreeTally). lost_of y) h.is) ∙ all)), leaf_settled (steps_made from v) h.some);
 }
 
 -- a call that is over has no bounds
@@ -94,8 +96,8 @@ module _ (z : Sizes) (share : ℕ) (g : TreeGoing) (s : Seek) (v : TreeView) (p 
       → Ends z share g.races g.call g.records (Lost (g.lost + 1)) v w p p' → Part z share (HasLost z share g s v p) g g' v w p' result
   lost_ends g' w p' result same lost_now over none all is e = subst (λ (r : Turned). Part z share (HasLost z share g s v p) g g' v w p' r)
       (sym is) record {
-        stepped = e.aside.stepped;
-        stands = e.aside.stands;
+        stepped = e.calm.stepped;
+        stands = e.calm.stands;
         same = same;
         struck = same.struck ∙ none;
         advances = tt;
@@ -128,8 +130,8 @@ module _ (z : Sizes) (share : ℕ) (g : TreeGoing) (s : Seek) (v : TreeView) (p 
       → Ends z share g.races g.call g.records (Said (Took g.taken)) v w p p' → Part z share (HasLost z share g s v p) g g' v w p' result
   lost_took g' w p' result same lost_now over took all is e = subst (λ (r : Turned). Part z share (HasLost z share g s v p) g g' v w p' r)
       (sym is) record {
-        stepped = e.aside.stepped;
-        stands = e.aside.stands;
+        stepped = e.calm.stepped;
+        stands = e.calm.stands;
         same = same;
         struck = same.struck ∙ took;
         advances = tt;

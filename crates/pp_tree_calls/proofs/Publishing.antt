@@ -28,8 +28,9 @@ use Rattle.pp_tree_calls.specs.declared.going.TreeGoing.{TreeGoing}
 use Rattle.pp_tree_calls.specs.declared.going.Next.{Next}
 use Rattle.pp_tree_calls.specs.declared.going.Next.TheVariants.{Publishes}
 use Rattle.pp_tree_calls.specs.Purses.{TwoRecords, HasOut, out_of}
-use Rattle.pp_tree_calls.specs.Going.{is_look, IsLosing, Tries, Goes, Stands, IsUnder}
-use Rattle.pp_tree_calls.specs.Answers.{MayEnd, spends_of}
+use Rattle.pp_turns.specs.Answers.{is_look, spends_of}
+use Rattle.pp_tree_calls.specs.Going.{IsLosing, Tries, Goes, Stands, IsUnder}
+use Rattle.pp_tree_calls.specs.Answers.{MayEnd}
 use Rattle.pp_tree_calls.specs.Turned.{Part, HasMissed, TreeTurned}
 use Rattle.pp_tree_calls.proofs.Exchanged.{some_in, out_free, has_missed}
 use Rattle.pp_tree_calls.proofs.Treading.{turned_by}
@@ -145,7 +146,7 @@ module _ (z : Sizes) (share : ℕ) (g : TreeGoing) (s : Sought) (f : Fresh × Fr
         last = saw_last from v u since.went e.names.stepped (some_in e.before _ _ (steps_made v u) e.names.named);
         sizes = sizes ∙ under.carries.sizes;
         kept = let few = under.carries.kept in let long = ap (λ y. length y.items) same in let none = ap out_of bare in
-            let spends = ap spends_of call in omega arith;
+            let spends = ap (spends_of 2) call in omega arith;
         alone = λ looks. absurd (false≢true (sym (insert_changes z (with_records g f) s from v m) ∙ looks));
       }
     where

@@ -27,7 +27,8 @@ use Rattle.pp_shelf.specs.Runs.{map_sizes, steps_made, MadeAtShelves}
 use Rattle.pp_shelf.specs.Shelves.{MovesFree}
 use Rattle.pp_turns.specs.Causes.{Aside}
 use Rattle.pp_turns.proofs.Aside.{aside_made}
-use Rattle.pp_tree_calls.specs.Purses.{HasOut, GaveBackOut, PutsAway}
+use Rattle.pp_turns.specs.Purses.{GaveBackOut}
+use Rattle.pp_tree_calls.specs.Purses.{HasOut, PutsAway, out_of}
 
 -- No scan is under way and no frontier word is in use but for a chain, where the same is known of them.
 pub rest_kept : (q q' : TreePass) (p p' : Purse) → SameRest q q' → p'.spent ≡ p.spent → IsAtRest q p → IsAtRest q' p'
@@ -56,7 +57,7 @@ plus_one [] n = refl
 plus_one (x ∷ xs) n = let ih = plus_one xs n in omega arith
 
 pub gave_both : (f : Fresh × Fresh) (p q p' : Purse) → p.taken ≡ 2 → GaveBack f.0.number p q → GaveBack f.1.number q p'
-    → GaveBackOut (Some f) p p'
+    → GaveBackOut (out_of (Some f)) p p'
 gave_both f p q p' two a b = record {
   taken = let t = a.taken in let u = b.taken in omega arith;
   long = let x = ap (λ (l : List ℕ). length l) a.free ∙ plus_one p.free.items f.0.number in

@@ -136,9 +136,11 @@ module _ (z : Sizes) (share : ℕ) (g : TreeGoing) (v w : TreeView) (p p' : Purs
         stepped = names.stepped;
         some_made = o.some_made;
         stands = names.stands;
-        call = refl;
-        races = refl;
-        high = o.high high;
+        same = record {
+          call = refl;
+          races = refl;
+          high = o.high high;
+        };
         stays = λ on. on;
         strikes = λ off on. absurd (false≢true (sym off ∙ on));
         struck = tt;

@@ -9,7 +9,7 @@ use Rattle.pp_pool.specs.declared.fresh.Fresh.{Fresh}
 use Rattle.pp_model.specs.declared.Answer.TheVariants.{Full}
 use Rattle.pp_model.specs.declared.Call.{Call}
 use Rattle.pp_model.specs.declared.Turned.{Turned}
-use Rattle.pp_model.specs.declared.Turned.TheVariants.{On, Done}
+use Rattle.pp_model.specs.declared.Turned.TheVariants.{Done}
 use Rattle.pp_model.specs.declared.steps.Step.{Step}
 use Rattle.pp_model.specs.Lists.{IsPrefix}
 use Rattle.pp_model.specs.MapCalls.{Answered, LeavesPurse, WentOn}
@@ -41,6 +41,7 @@ use Rattle.pp_turns.proofs.Answering.{told_as, says_full}
 use Rattle.pp_turns.proofs.Aside.{aside_at_purse, aside_both, counts_losing}
 use Rattle.pp_turns.proofs.Placing.{absent_on, struck_on, unplaced_on}
 use Rattle.pp_turns.proofs.Purses.{found_none, full_purse, tidied}
+use Rattle.pp_turns.proofs.Turning.{on_by, done_by}
 use Rattle.pp_turns.proofs.Stretches.{own_before, saw_last, since_on, stretch_both}
 use Rattle.pp_tree_turns.specs.Walked.{tree_reader, TreeTally}
 use Rattle.pp_tree_turns.specs.Causes.{tree_words, tree_causes, tree_meaning, HoldsPairs}
@@ -53,7 +54,8 @@ use Rattle.pp_tree_calls.specs.declared.going.TreeGoing.{TreeGoing}
 use Rattle.pp_tree_calls.specs.declared.going.Next.{Next}
 use Rattle.pp_tree_calls.specs.declared.going.Next.TheVariants.{Publishes, Over}
 use Rattle.pp_tree_calls.specs.Purses.{TakesTwo, TakesNone, PutsAway}
-use Rattle.pp_tree_calls.specs.Going.{is_look, going_of, Stands, IsUnder}
+use Rattle.pp_turns.specs.Answers.{is_look}
+use Rattle.pp_tree_calls.specs.Going.{going_of, Stands, IsUnder}
 use Rattle.pp_tree_calls.specs.Turned.{TreeTurned}
 use Rattle.pp_tree_calls.proofs.Lasting.{tries_on}
 use Rattle.pp_tree_calls.proofs.Losing.{ends_high}
@@ -174,49 +176,30 @@ module _ (z : Sizes) (share : ℕ) (g : TreeGoing) (s : Sought) (f : Fresh × Fr
   -- and tried to publish them
   pub put_turned : IsAtRest u.known q → (g' : TreeGoing) (w : TreeView) (p' : Purse) (result : Turned)
       → TreeTurned z share (with_records g f) g' u w q p' result → TreeTurned z share g g' v w p p' result
-  put_turned rest g' w p' result part = by result part
+  put_turned rest g' w p' result a = record {
+    stepped = stepped_both v u w aside.stepped a.stepped;
+    some_made = let e = ap (λ (l : List Step). length l) (stretch_both v u w aside.stepped a.stepped)
+        ∙ length-append (steps_made v u) (steps_made u w) in let made = a.some_made in omega arith;
+    stands = λ own st. a.stands own (aside.stands (own_before u w a.stepped own) st);
+    same = record { call = a.same.call; races = a.same.races; high = a.same.high };
+    stays = a.stays;
+    strikes = λ off on. let r = a.strikes off on in
+        (r.0, struck_on g.call r.0 v u w aside.stepped.number aside.stepped.order aside.unplaced r.1);
+    struck = a.struck;
+    went = on_by result _ (WentOn (going_of v.known g) (going_of w.known g'))
+        (λ y. subst (λ (y : GoingView). WentOn y (going_of w.known g')) (sym seen) y) a.went;
+    goes_on = on_by result _ ((from : TreeView) (free : List ℕ) → IsUnder z share g v p from free → IsUnder z share g' w p' from free)
+        (λ each from free x. each from free (has_records rest from free x)) a.goes_on;
+    answered = done_by result _ (λ answer. (from : TreeView) (free : List ℕ) → IsUnder z share g v p from free → StandsThen w
+        → Answered tree_meaning (map_sizes z) g.call g.races (pool_view from free share) (pool_view w p'.free.items share) answer g'.lost)
+        (λ answer each from free x st. each from free (has_records rest from free x) st) a.answered;
+  }
     where
-      some : Stepped u w → 0 < length (steps_made u w) → 0 < length (steps_made v w)
-      some stepped made = let e = ap (λ (l : List Step). length l) (stretch_both v u w aside.stepped stepped)
-          ∙ length-append (steps_made v u) (steps_made u w) in omega arith
-
       seen : going_of v.known g ≡ going_of u.known (with_records g f)
       seen = ap (λ (n : ℕ). with_start n) (sym (ap (λ o. o.start) t.steps.own))
         where
           with_start : ℕ → GoingView
           with_start n = record (going_of u.known (with_records g f)) { start = n }
-
-      by : (r : Turned) → TreeTurned z share (with_records g f) g' u w q p' r → TreeTurned z share g g' v w p p' r
-      by On a = record {
-        stepped = stepped_both v u w aside.stepped a.stepped;
-        some_made = some a.stepped a.some_made;
-        stands = λ own st. a.stands own (aside.stands (own_before u w a.stepped own) st);
-        call = a.call;
-        races = a.races;
-        high = a.high;
-        stays = a.stays;
-        strikes = λ off on. let r = a.strikes off on in
-            (r.0, struck_on g.call r.0 v u w aside.stepped.number aside.stepped.order aside.unplaced r.1);
-        struck = tt;
-        went = subst (λ (y : GoingView). WentOn y (going_of w.known g')) (sym seen) a.went;
-        goes_on = λ from free x. a.goes_on from free (has_records rest from free x);
-        answered = tt;
-      }
-      by (Done answer) a = record {
-        stepped = stepped_both v u w aside.stepped a.stepped;
-        some_made = some a.stepped a.some_made;
-        stands = λ own st. a.stands own (aside.stands (own_before u w a.stepped own) st);
-        call = a.call;
-        races = a.races;
-        high = a.high;
-        stays = a.stays;
-        strikes = λ off on. let r = a.strikes off on in
-            (r.0, struck_on g.call r.0 v u w aside.stepped.number aside.stepped.order aside.unplaced r.1);
-        struck = a.struck;
-        went = tt;
-        goes_on = tt;
-        answered = λ from free x st. a.answered from free (has_records rest from free x) st;
-      }
 
 -- of a list that has fewer than two numbers, and is cut to at most so many, so much is left in each of its beginnings
 few_left : (share : ℕ) (free middle last : List ℕ) → length middle < 2 → BeginsWith middle free → BeginsWith middle last
@@ -328,9 +311,11 @@ module _ (z : Sizes) (share : ℕ) (g : TreeGoing) (s : Sought) (v u w : TreeVie
         stepped = all.stepped;
         some_made = long;
         stands = all.stands;
-        call = ap (λ y. y.call) over;
-        races = ap (λ y. y.races) over;
-        high = ends_high g' (ap (λ y. y.next) over);
+        same = record {
+          call = ap (λ y. y.call) over;
+          races = ap (λ y. y.races) over;
+          high = ends_high g' (ap (λ y. y.next) over);
+        };
         stays = λ was. absurd (false≢true (sym m.off ∙ was));
         strikes = λ was yes. absurd (false≢true (sym now ∙ yes));
         struck = now;

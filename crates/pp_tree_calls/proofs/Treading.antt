@@ -8,10 +8,9 @@ use Rattle.pp_link.specs.declared.layout.Sizes.{Sizes}
 use Rattle.pp_model.specs.declared.Call.{Call}
 use Rattle.pp_model.specs.declared.Reply.{Reply}
 use Rattle.pp_model.specs.declared.Turned.{Turned}
-use Rattle.pp_model.specs.declared.Turned.TheVariants.{On, Done}
 use Rattle.pp_model.specs.declared.steps.Step.{Step}
 use Rattle.pp_model.specs.Calls.{key_of}
-use Rattle.pp_model.specs.MapCalls.{Answered, turn_lost, next_kind}
+use Rattle.pp_model.specs.MapCalls.{Answered, WentOn, turn_lost, next_kind}
 use Rattle.pp_base.specs.declared.purse.Purse.{Purse}
 use Rattle.pp_base.specs.Named.{NamedStep, name_of}
 use Rattle.pp_base.specs.Passes.{IsAtRest}
@@ -28,6 +27,7 @@ use Rattle.pp_trees.specs.Edges.{TreeView, end_step}
 use Rattle.pp_turns.specs.Tallies.{losing, memory_of}
 use Rattle.pp_turns.specs.Turns.{Waits, Unplaced, Struck}
 use Rattle.pp_turns.proofs.Placing.{unplaced_on, unplaced_made}
+use Rattle.pp_turns.proofs.Turning.{on_by, done_by}
 use Rattle.pp_turns.proofs.Stretches.{since_first, stretch_both, own_before}
 use Rattle.pp_tree_turns.specs.Walked.{fresh_walk, tree_reader}
 use Rattle.pp_tree_turns.specs.Turning.{Minds, Walks}
@@ -36,9 +36,9 @@ use Rattle.pp_tree_turns.proofs.Ends.{entered_start}
 use Rattle.pp_tree_calls.specs.declared.going.TreeGoing.{TreeGoing}
 use Rattle.pp_tree_calls.specs.declared.going.Next.{Next}
 use Rattle.pp_tree_calls.specs.Purses.{TwoRecords}
-use Rattle.pp_tree_calls.specs.Going.{kind_of, Tries, Goes}
+use Rattle.pp_tree_calls.specs.Going.{kind_of, going_of, Tries, Goes}
 use Rattle.pp_tree_calls.specs.Going.{Carries, IsUnder}
-use Rattle.pp_tree_calls.specs.Turned.{Part, TreeTurned}
+use Rattle.pp_tree_calls.specs.Turned.{Advances, Part, TreeTurned}
 use Rattle.pp_tree_calls.proofs.Resting.{rest_kept, same_purse}
 use Rattle.pp_tree_calls.proofs.Lasting.{silent_none, counts_on, tries_on, carries_on, out_same}
 
@@ -88,38 +88,26 @@ pub turned_by : (z : Sizes) (share : ℕ) (g h g' : TreeGoing) (v u w : TreeView
     → Stepped v u → 0 < length (steps_made v u) → (HasOwn u.order → StandsThen v → StandsThen u)
     → ((from : TreeView) (free : List ℕ) → IsUnder z share g v p from free → Known from free)
     → Part z share Known h g' u w p' result → TreeTurned z share g g' v w p p' result
-turned_by z share g h g' v u w p p' On Known call races lost kind stays strikes s some stands knows a = record {
+turned_by z share g h g' v u w p p' result Known call races lost kind stays strikes s some stands knows a = record {
   stepped = stepped_both v u w s a.stepped;
   some_made = some_after v u w s a.stepped some;
   stands = λ own st. a.stands own (stands (own_before u w a.stepped own) st);
-  call = a.same.call ∙ call;
-  races = a.same.races ∙ races;
-  high = a.high;
-  stays = λ on. a.same.struck ∙ stays on;
-  strikes = λ off on. strikes off (sym a.same.struck ∙ on);
-  struck = tt;
-  went = ⊎_elim (λ (l : (g'.lost ≡ h.lost + 1) × (g'.lost < g'.races)). turn_lost (l.0 ∙ ap (λ (n : ℕ). n + 1) lost) l.1)
-      (λ (k : (g'.lost ≡ h.lost) × (kind_of h.next < kind_of g'.next)). next_kind (k.0 ∙ lost)
-      (subst (λ (n : ℕ). n < kind_of g'.next) kind k.1)) a.advances;
-  goes_on = λ from free k. a.goes_on from free (knows from free k);
-  answered = tt;
-}
-turned_by z share g h g' v u w p p' (Done answer) Known call races lost kind stays strikes s some stands knows a = record {
-  stepped = stepped_both v u w s a.stepped;
-  some_made = some_after v u w s a.stepped some;
-  stands = λ own st. a.stands own (stands (own_before u w a.stepped own) st);
-  call = a.same.call ∙ call;
-  races = a.same.races ∙ races;
-  high = a.high;
+  same = record { call = a.same.call ∙ call; races = a.same.races ∙ races; high = a.high };
   stays = λ on. a.same.struck ∙ stays on;
   strikes = λ off on. strikes off (sym a.same.struck ∙ on);
   struck = a.struck;
-  went = tt;
-  goes_on = tt;
-  answered = λ from free k st. subst (λ (c : Call). Answered tree_meaning (map_sizes z) c g.races (pool_view from free share)
+  went = on_by result (Advances h g') (WentOn (going_of v.known g) (going_of w.known g'))
+      (⊎_elim (λ (l : (g'.lost ≡ h.lost + 1) × (g'.lost < g'.races)). turn_lost (l.0 ∙ ap (λ (n : ℕ). n + 1) lost) l.1)
+      (λ (k : (g'.lost ≡ h.lost) × (kind_of h.next < kind_of g'.next)). next_kind (k.0 ∙ lost)
+      (subst (λ (n : ℕ). n < kind_of g'.next) kind k.1))) a.advances;
+  goes_on = on_by result _ ((from : TreeView) (free : List ℕ) → IsUnder z share g v p from free → IsUnder z share g' w p' from free)
+      (λ each from free k. each from free (knows from free k)) a.goes_on;
+  answered = done_by result _ (λ answer. (from : TreeView) (free : List ℕ) → IsUnder z share g v p from free → StandsThen w
+      → Answered tree_meaning (map_sizes z) g.call g.races (pool_view from free share) (pool_view w p'.free.items share) answer g'.lost)
+      (λ answer each from free k st. subst (λ (c : Call). Answered tree_meaning (map_sizes z) c g.races (pool_view from free share)
       (pool_view w p'.free.items share) answer g'.lost) call (subst (λ (n : ℕ). Answered tree_meaning (map_sizes z) h.call n
-      (pool_view from free share)
-      (pool_view w p'.free.items share) answer g'.lost) races (a.answered from free (knows from free k) st));
+      (pool_view from free share) (pool_view w p'.free.items share) answer g'.lost) races (each from free (knows from free k) st)))
+      a.answered;
 }
 
 -- where the last part is one of the same call

@@ -1,91 +1,22 @@
 -- What is known of a call on a tree as it ends, before its last steps.
-use Rattle.std.specs.Prelude.{◌≡◌, ℕ, ◌+◌, ◌<◌, Bool, true, false, List}
+use Rattle.std.specs.Prelude.{ℕ, List}
 use Rattle.pp_link.specs.declared.layout.Sizes.{Sizes}
 use Rattle.pp_model.specs.declared.Answer.{Answer}
-use Rattle.pp_model.specs.declared.Answer.TheVariants.{Said, Full, Lost}
 use Rattle.pp_model.specs.declared.Call.{Call}
-use Rattle.pp_model.specs.declared.Call.TheVariants.{Get, Insert, Remove, Cut}
-use Rattle.pp_model.specs.declared.Reply.{Reply}
-use Rattle.pp_model.specs.declared.Reply.TheVariants.{Took}
-use Rattle.pp_model.specs.declared.steps.Step.{Step}
-use Rattle.pp_model.specs.Calls.{changes}
-use Rattle.pp_model.specs.MapCalls.{LeftAlone, Answered}
 use Rattle.pp_base.specs.declared.purse.Purse.{Purse}
-use Rattle.pp_calls.specs.PoolViews.{pool_view}
-use Rattle.pp_calls.specs.Steps.{StandsThen}
-use Rattle.pp_shelf.specs.Runs.{map_sizes, steps_made}
+use Rattle.pp_shelf.specs.Runs.{map_sizes}
 use Rattle.pp_trees.specs.Edges.{TreeView}
-use Rattle.pp_turns.specs.Tallies.{losing, effected}
-use Rattle.pp_turns.specs.Turns.{Since, Unplaced, Struck, Replied, SawLast, Kept}
-use Rattle.pp_turns.specs.Causes.{TookBy, Aside}
-use Rattle.pp_tree_turns.specs.Walked.{Walked, tree_reader}
-use Rattle.pp_tree_turns.specs.Causes.{tree_causes, tree_words, tree_meaning, flagged_leaf}
-use Rattle.pp_tree_calls.specs.Going.{is_look}
-use Rattle.pp_tree_calls.specs.Purses.{TwoRecords, LooksAway, TidiesUp, out_of}
-
--- what ends a call, by whether it only looked
-abbrev pub Leaves : Bool → Sizes → ℕ → TwoRecords → TreeView → TreeView → Purse → Purse → Type 0
-Leaves true z share records v w p p' = LooksAway v w p p'
-Leaves false z share records v w p p' = TidiesUp z share records v w p p'
-
--- it is answered by a reply that changes nothing
-pub record SaysPlain (z : Sizes) (races : ℕ) (call : Call) (said : Reply) (lost : ℕ) (from now : TreeView) : Type 0 where
-  pub start : ℕ
-  pub memory : Walked
-  pub since : Since tree_reader (map_sizes z) call start (losing memory lost) from now
-  pub few : lost < races
-  pub replied : Replied call said start from now
-
--- Or by one that says what it changed. The leaf that it took is known by its steps.
-pub record SaysStruck (z : Sizes) (races : ℕ) (call : Call) (said : Reply) (lost : ℕ) (from now : TreeView) : Type 0 where
-  pub start : ℕ
-  pub memory : Walked
-  pub early : ℕ
-  pub later : List Step
-  pub since : Since tree_reader (map_sizes z) call start (effected memory lost early later) from now
-  pub few : early < races
-  pub struck : Struck call said from now
-  pub took : (v : ℕ) → said ≡ Took v → TookBy tree_words tree_causes (map_sizes z) call races (effected memory lost early later) from now
-      × (flagged_leaf (steps_made from now) ≡ 0 → ⊥)
-
--- or it lost as many turns as it may
-pub record GivesUp (z : Sizes) (races : ℕ) (call : Call) (turns : ℕ) (from now : TreeView) : Type 0 where
-  pub start : ℕ
-  pub memory : Walked
-  pub since : Since tree_reader (map_sizes z) call start (losing memory turns) from now
-  pub all : turns ≡ races
-  pub unplaced : Unplaced from now
-
-abbrev pub SaysBy : Bool → Sizes → ℕ → Call → Reply → ℕ → TreeView → TreeView → Type 0
-SaysBy true z races call said lost from now = SaysStruck z races call said lost from now
-SaysBy false z races call said lost from now = SaysPlain z races call said lost from now
-
--- the answer, of a call that has lost so many turns
-abbrev pub AnswersBy : Sizes → ℕ → Call → Answer → ℕ → TreeView → TreeView → Type 0
-AnswersBy z races call (Said r) lost from now = SaysBy (changes r) z races call r lost from now
-AnswersBy z races call Full lost from now = ⊥
-AnswersBy z races call (Lost turns) lost from now = GivesUp z races call turns from now × (turns ≡ lost)
-
--- how many free numbers a call may spend
-abbrev pub spends_of : Call → ℕ
-spends_of (Get k) = 0
-spends_of (Insert k v) = 2
-spends_of (Remove k) = 0
-spends_of (Cut k v) = 0
+use Rattle.pp_turns.specs.Answers as ends
+use Rattle.pp_turns.specs.Causes.{Aside}
+use Rattle.pp_tree_turns.specs.Causes.{tree_causes, tree_words, tree_meaning}
+use Rattle.pp_tree_calls.specs.Purses.{TwoRecords, out_of}
 
 -- A call that began at this view, with these free numbers, and has lost so many turns, may be ended so.
-pub record MayEnd (z : Sizes) (share races : ℕ) (call : Call) (records : TwoRecords) (answer : Answer) (lost : ℕ)
-    (from now : TreeView) (free : List ℕ) (p : Purse) : Type 0 where
-  pub by : AnswersBy z races call answer lost from now
-  pub last : SawLast from now
-  pub sizes : now.known.sizes ≡ from.known.sizes
-  pub kept : Kept free share p.free.items (out_of records + spends_of call)
-  pub alone : is_look call ≡ true → LeftAlone (pool_view from free share) (pool_view now p.free.items share)
+abbrev pub MayEnd : Sizes → (share races : ℕ) → Call → TwoRecords → Answer → ℕ → TreeView → TreeView → List ℕ → Purse → Type 0
+MayEnd z share races call records answer lost from now free p =
+    ends.MayEnd tree_words tree_causes (map_sizes z) races call share (out_of records) answer lost from now free p
 
 -- It was ended, with this answer.
-pub record Ends (z : Sizes) (share races : ℕ) (call : Call) (records : TwoRecords) (answer : Answer) (v w : TreeView)
-    (p p' : Purse) : Type 0 where
-  pub aside : Aside z v w
-  pub answered : (from : TreeView) (free : List ℕ) (lost : ℕ)
-      → MayEnd z share races call records answer lost from v free p → StandsThen w
-      → Answered tree_meaning (map_sizes z) call races (pool_view from free share) (pool_view w p'.free.items share) answer lost
+abbrev pub Ends : Sizes → (share races : ℕ) → Call → TwoRecords → Answer → TreeView → TreeView → Purse → Purse → Type 0
+Ends z share races call records answer v w p p' =
+    ends.Ends tree_words tree_causes tree_meaning z races call (Aside z v w) share (out_of records) answer v w p p'

@@ -2,7 +2,7 @@
 use Rattle.std.specs.Prelude.{◌≡◌, ◌≢◌, ◌⊎◌, ℕ, ◌^◌, ◌<◌, ◌≤◌, Bool, true, false, not, List, Option, Some, None}
 use Rattle.pp_link.specs.declared.layout.Sizes.{Sizes}
 use Rattle.pp_model.specs.declared.Call.{Call}
-use Rattle.pp_model.specs.declared.Call.TheVariants.{Get, Insert, Remove, Cut}
+use Rattle.pp_model.specs.declared.Call.TheVariants.{Insert}
 use Rattle.pp_model.specs.declared.Reply.TheVariants.{Took}
 use Rattle.pp_model.specs.declared.steps.Step.{Step}
 use Rattle.pp_model.specs.Calls.{key_of}
@@ -20,6 +20,7 @@ use Rattle.pp_seek.specs.Seeking.{Seeks as IsSeek}
 use Rattle.pp_trees.specs.Trees.{across, inf0}
 use Rattle.pp_trees.specs.Searches.{TreePass}
 use Rattle.pp_trees.specs.Edges.{TreeView}
+use Rattle.pp_turns.specs.Answers.{is_look}
 use Rattle.pp_turns.specs.Tallies.{losing, effected, lost_of, memory_of, later_of}
 use Rattle.pp_turns.specs.Turns.{Since, Waits, Unplaced, Struck, WasAbsent, Kept}
 use Rattle.pp_tree_turns.specs.Walked.{Walked, tree_reader, TreeTally}
@@ -31,13 +32,6 @@ use Rattle.pp_tree_calls.specs.declared.going.TreeGoing.{TreeGoing}
 use Rattle.pp_tree_calls.specs.declared.going.Next.{Next}
 use Rattle.pp_tree_calls.specs.declared.going.Next.TheVariants.{Seeks, Publishes, Flags, Tags, Splices, Over}
 use Rattle.pp_tree_calls.specs.Purses.{TwoRecords, HasOut, out_of}
-
--- a call that only looks
-abbrev pub is_look : Call → Bool
-is_look (Get k) = true
-is_look (Insert k v) = false
-is_look (Remove k) = false
-is_look (Cut k v) = false
 
 -- The kind of the next turn: a turn of the seek, and those behind it, in their order.
 abbrev pub kind_of : Next → ℕ

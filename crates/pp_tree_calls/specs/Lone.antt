@@ -3,7 +3,6 @@ use Rattle.std.specs.Prelude.{◌≡◌, Bool, true, false, length}
 use Rattle.pp_link.specs.declared.layout.Sizes.{Sizes}
 use Rattle.pp_model.specs.declared.Turned.{Turned}
 use Rattle.pp_model.specs.History.{contents_of}
-use Rattle.pp_model.specs.MapCalls.{IfOn, IfDone}
 use Rattle.pp_rule.specs.Causes.{CountsAttached}
 use Rattle.pp_rule.specs.Orders.{log_of}
 use Rattle.pp_rule.specs.Reached.{Reached}
@@ -11,6 +10,7 @@ use Rattle.pp_trees.specs.Clean.{IsBare}
 use Rattle.pp_trees.specs.Edges.{TreeView}
 use Rattle.pp_trees.specs.Gathering.{live_in_tree}
 use Rattle.pp_trees.specs.Lone.{words_of}
+use Rattle.pp_turns.specs.Turned.{LoneTurned}
 use Rattle.pp_seek.specs.Lone.{LoneSeek, LoneSought}
 use Rattle.pp_tree_turns.specs.Lone.{LoneFlagged, LoneTagged}
 use Rattle.pp_tree_calls.specs.declared.going.Next.{Next}
@@ -30,10 +30,8 @@ abbrev pub LoneAt : Sizes → TreeGoing → TreeView → Type 0
 LoneAt z g v = LoneNext z g.struck g.next v
 
 -- A turn of it is not lost. After the last one no record that can be reached is removed.
-pub record LoneTurn (z : Sizes) (g g' : TreeGoing) (now : TreeView) (result : Turned) : Type 0 where
-  pub lost : g'.lost ≡ g.lost
-  pub on : IfOn result (LoneAt z g' now)
-  pub done : IfDone result (λ _. IsBare z (words_of z now))
+abbrev pub LoneTurn : Sizes → TreeGoing → TreeGoing → TreeView → Turned → Type 0
+LoneTurn z g g' now result = LoneTurned (LoneAt z g' now) (IsBare z (words_of z now)) g.lost g'.lost result
 
 -- As many records are attached as a tree of the pairs has live ones that the pass has seen.
 abbrev pub CountsClean : Sizes → TreeView → Type 0

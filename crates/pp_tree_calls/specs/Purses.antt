@@ -1,5 +1,5 @@
 -- What a call on a tree has of its purse, and what its parts make of it.
-use Rattle.std.specs.Prelude.{◌≡◌, ◌≢◌, ◌⊎◌, ℕ, ◌+◌, ◌≤◌, min, List, length, Option, Some, None}
+use Rattle.std.specs.Prelude.{◌≡◌, ◌≢◌, ◌⊎◌, ℕ, ◌+◌, ◌≤◌, min, Bool, List, length, Option, Some, None}
 use Rattle.pp_link.specs.declared.layout.Sizes.{Sizes}
 use Rattle.pp_pool.specs.declared.fresh.Fresh.{Fresh}
 use Rattle.pp_pool.specs.Taken.{IsPrivate}
@@ -7,13 +7,13 @@ use Rattle.pp_rule.specs.Causes.{FoundTaken}
 use Rattle.pp_rule.specs.Lists.{BeginsWith}
 use Rattle.pp_base.specs.declared.purse.Purse.{Purse}
 use Rattle.pp_base.specs.Named.{NamedStep}
-use Rattle.pp_calls.specs.Steps.{SamePurse}
 use Rattle.pp_shelf.specs.Runs.{map_sizes, steps_made}
-use Rattle.pp_purse.specs.Purses.{TidiesPurse, RanOut}
+use Rattle.pp_purse.specs.Purses.{RanOut}
 use Rattle.pp_purse.specs.Steps.{PurseSteps}
 use Rattle.pp_seek.specs.Trails.{Clears}
 use Rattle.pp_trees.specs.Searches.{TreePass}
 use Rattle.pp_trees.specs.Edges.{TreeView}
+use Rattle.pp_turns.specs.Purses as ends
 
 -- the two records of an insert
 abbrev pub TwoRecords : Type 0
@@ -29,28 +29,17 @@ abbrev pub HasOut : TreePass → Purse → TwoRecords → Type 0
 HasOut q p None = p.taken ≡ 0
 HasOut q p (Some f) = IsPrivate q p f.0.number × IsPrivate q p f.1.number × (f.0.number ≢ f.1.number) × (p.taken ≡ 2)
 
--- the records that were out, if there were any, are free again
-pub record GaveBackOut (records : TwoRecords) (p p' : Purse) : Type 0 where
-  pub taken : p'.taken ≡ 0
-  pub long : length p'.free.items ≡ length p.free.items + out_of records
-  pub going : p'.going ≡ p.going
-  pub spent : p'.spent ≡ p.spent
-
 -- A call that only looked cleared its walk words.
-pub record LooksAway (v w : TreeView) (p p' : Purse) : Type 0 where
-  pub clears : Clears v w
-  pub purse : SamePurse v w
-  pub free : p'.free ≡ p.free
+abbrev pub LooksAway : TreeView → TreeView → Purse → Purse → Type 0
+LooksAway v w p p' = ends.LooksAway Clears v w p p'
 
 -- A call cleared its walk words, gave its records back and tidied.
-pub record TidiesUp (z : Sizes) (share : ℕ) (records : TwoRecords) (v w : TreeView) (p p' : Purse) : Type 0 where
-  pub between : TreeView
-  pub middle : Purse
-  pub clears : Clears v between
-  pub long : length middle.free.items ≡ length p.free.items + out_of records
-  pub last : Purse
-  pub tidies : TidiesPurse z share between w middle last
-  pub free : p'.free ≡ last.free
+abbrev pub TidiesUp : Sizes → ℕ → TwoRecords → TreeView → TreeView → Purse → Purse → Type 0
+TidiesUp z share records v w p p' = ends.TidiesUp Clears z share (out_of records) v w p p'
+
+-- what ends a call, by whether it only looked
+abbrev pub Leaves : Bool → Sizes → ℕ → TwoRecords → TreeView → TreeView → Purse → Purse → Type 0
+Leaves looks z share records v w p p' = ends.Leaves Clears looks z share (out_of records) v w p p'
 
 -- A call that had its two records out already, or none, has these two out. Of the free ones but for them none is gone.
 pub record TakesTwo (z : Sizes) (had : TwoRecords) (f : Fresh × Fresh) (v w : TreeView) (p p' : Purse) : Type 0 where

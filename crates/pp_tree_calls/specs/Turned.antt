@@ -7,7 +7,7 @@ use Rattle.pp_model.specs.declared.Reply.{Reply}
 use Rattle.pp_model.specs.declared.Turned.{Turned}
 use Rattle.pp_model.specs.declared.steps.Step.{Step}
 use Rattle.pp_model.specs.Calls.{key_of, changes, reply_at}
-use Rattle.pp_model.specs.MapCalls.{Answered, IfOn, IfDone, WentOn, took_effect}
+use Rattle.pp_model.specs.MapCalls.{Answered, IfOn, IfDone, took_effect}
 use Rattle.pp_rule.specs.Lists.{IsIn}
 use Rattle.pp_rule.specs.Orders.{is_calm, log_of, read_step}
 use Rattle.pp_rule.specs.Views.{slot}
@@ -24,12 +24,14 @@ use Rattle.pp_trees.specs.Searches.{TreePass}
 use Rattle.pp_trees.specs.Edges.{TreeView, end_step}
 use Rattle.pp_trees.specs.Seeks.{found_at}
 use Rattle.pp_turns.specs.Tallies.{memory_of, later_of}
+use Rattle.pp_turns.specs.Turned.{HasTurned}
 use Rattle.pp_turns.specs.Turns.{Unplaced, Struck, Replied, SawLast}
 use Rattle.pp_tree_turns.specs.Turning.{Minds, Walks}
 use Rattle.pp_tree_turns.specs.Walked.{TreeTally}
 use Rattle.pp_tree_turns.specs.Causes.{tree_meaning}
 use Rattle.pp_tree_calls.specs.declared.going.TreeGoing.{TreeGoing}
-use Rattle.pp_tree_calls.specs.Going.{kind_of, spot_of, going_of, upper_at, is_look, Counts, IsLosing, HasTaken, Tries}
+use Rattle.pp_turns.specs.Answers.{is_look}
+use Rattle.pp_tree_calls.specs.Going.{kind_of, spot_of, going_of, upper_at, Counts, IsLosing, HasTaken, Tries}
 use Rattle.pp_tree_calls.specs.Going.{Carries, IsUnder}
 use Rattle.pp_tree_calls.specs.Purses.{HasOut}
 
@@ -126,19 +128,13 @@ pub record HasEnded (z : Sizes) (g : TreeGoing) (q : TreePass) (p : Purse) (s : 
   pub out : HasOut q p g.records
   pub looks : is_look g.call ≡ true → (g.records ≡ None) × (g.struck ≡ false)
 
--- What a turn makes of it.
-pub record TreeTurned (z : Sizes) (share : ℕ) (g g' : TreeGoing) (v w : TreeView) (p p' : Purse) (result : Turned) : Type 0 where
-  pub stepped : Stepped v w
-  pub some_made : 0 < length (steps_made v w)
-  pub stands : HasOwn w.order → StandsThen v → StandsThen w
+-- it is the same call after a turn, with the same budget and bounds below the end of the keys
+pub record StaysSame (g g' : TreeGoing) : Type 0 where
   pub call : g'.call ≡ g.call
   pub races : g'.races ≡ g.races
   pub high : upper_at (spot_of g'.next) ≤ 2 ^ 64
-  pub stays : g.struck ≡ true → g'.struck ≡ true
-  pub strikes : g.struck ≡ false → g'.struck ≡ true → (said : Reply) × Struck g.call said v w
-  pub struck : IfDone result (λ answer. g'.struck ≡ took_effect answer)
-  pub went : IfOn result (WentOn (going_of v.known g) (going_of w.known g'))
-  pub goes_on : IfOn result ((from : TreeView) (free : List ℕ) → IsUnder z share g v p from free → IsUnder z share g' w p' from free)
-  pub answered : IfDone result (λ answer. (from : TreeView) (free : List ℕ) → IsUnder z share g v p from free → StandsThen w
-      → Answered tree_meaning (map_sizes z) g.call g.races (pool_view from free share) (pool_view w p'.free.items share) answer
-      g'.lost)
+
+-- What a turn makes of it.
+abbrev pub TreeTurned : Sizes → ℕ → TreeGoing → TreeGoing → TreeView → TreeView → Purse → Purse → Turned → Type 0
+TreeTurned z share g g' v w p p' result = HasTurned tree_meaning z share (StaysSame g g') (IsUnder z share g v p) (IsUnder z share g' w p')
+    (going_of v.known g) (going_of w.known g') v w p'.free.items result

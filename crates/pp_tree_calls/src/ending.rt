@@ -3,8 +3,8 @@
 ghost use Rattle.std.specs.Prelude.{◌≡◌, true, None};
 ghost use Rattle.pp_base.specs.Passes.{known, view, Fits, IsSame, IsAtRest};
 ghost use Rattle.pp_turns.specs.Passes.{IsResting};
-ghost use Rattle.pp_tree_calls.specs.Answers.{Leaves};
-ghost use Rattle.pp_tree_calls.specs.Purses.{HasOut, GaveBackOut, LooksAway, TidiesUp, PutsAway};
+ghost use Rattle.pp_turns.specs.Purses.{GaveBackOut};
+ghost use Rattle.pp_tree_calls.specs.Purses.{HasOut, LooksAway, TidiesUp, Leaves, PutsAway, out_of};
 
 use pp_base::{Pass, Pool};
 use pp_edges::TreeShape;
@@ -29,7 +29,7 @@ fn give(pass: &mut Pass<TreeShape>, records: Option<(Fresh, Fresh)>)
     requires rest { IsAtRest (known pass.old.seat) pass.old.purse }
     ensures seat { pass.new.seat ≡ pass.old.seat }
     ensures walk { pass.new.walk ≡ pass.old.walk }
-    ensures gave { GaveBackOut records pass.old.purse pass.new.purse }
+    ensures gave { GaveBackOut (out_of records) pass.old.purse pass.new.purse }
     ensures rest { IsAtRest (known pass.new.seat) pass.new.purse }
 {
     if let Some((leaf, inner)) = records {

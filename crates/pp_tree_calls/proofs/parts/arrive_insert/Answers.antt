@@ -5,7 +5,7 @@ use Rattle.pp_model.specs.declared.Reply.TheVariants.{Held}
 use Rattle.pp_model.specs.Calls.{reply_at}
 use Rattle.pp_base.specs.Passes.{known, view}
 use Rattle.pp_calls.proofs.Purses.{same_share}
-use Rattle.pp_tree_calls.specs.Going.{is_look}
+use Rattle.pp_turns.specs.Answers.{is_look}
 use Rattle.pp_tree_calls.specs.Turned.{found_by, HasArrived}
 use Rattle.pp_tree_calls.proofs.Lasting.{part_after}
 use Rattle.pp_tree_calls.proofs.Arriving.{arrived_says, arrived_idle, opens_beside, opens_again, opens_publish, found_other}

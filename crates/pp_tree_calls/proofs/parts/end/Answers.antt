@@ -1,7 +1,6 @@
 use Rattle.std.proofs.Common.{Bool, subst}
 use Rattle.pp_base.specs.Passes.{known, view}
-use Rattle.pp_tree_calls.specs.Purses.{TwoRecords}
-use Rattle.pp_tree_calls.specs.Answers.{Leaves}
+use Rattle.pp_tree_calls.specs.Purses.{TwoRecords, Leaves}
 use Rattle.pp_tree_calls.proofs.Closing.{ended}
 use Rattle.pp_tree_calls.proofs.Losing.{four_chains}
 use Rattle.std.proofs.Common.{◌∙◌}

@@ -50,7 +50,7 @@ returns-in-Done-clause-turned c = let z = c.args.pool.now.layout in let old = c.
     new.purse share refl e.ensures.ended in
     added_turned z old.share g s f (view old.seat) (view mid.seat) old.purse c.requires.at pair.0 pair.1 call c.requires.bare
     c.in-Done.ensures.published mid.purse free c.publish_turn.ensures.same.sizes e.new.going (view new.seat) new.purse e.result
-    ended.aside.stepped ended.aside.unplaced
+    ended.calm.stepped ended.calm.unplaced
     (end_part z old.share (record g { struck = true }) e.new.going (Said Added) (view mid.seat) (view new.seat) mid.purse new.purse e.result
     e.ensures.over e.ensures.done refl ended)
 
