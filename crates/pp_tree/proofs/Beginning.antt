@@ -1,13 +1,11 @@
 -- A call that was begun on a pass that rests is under way.
-use Rattle.std.proofs.Common.{◌≡◌, ℕ, zero, suc, ◌^◌, ◌<◌, ◌≤◌, Bool, true, false, List, [], ◌∷◌, length, map, get_or}
+use Rattle.std.proofs.Common.{◌≡◌, ℕ, zero, ◌^◌, ◌<◌, ◌≤◌, Bool, true, false, List, map}
 use Rattle.std.proofs.Common.{Option, refl, sym, ap, ◌∙◌, subst, arith}
 use Rattle.std.proofs.Math.Bool.{false≢true}
 use Rattle.std.specs.Prelude.{replicate}
 use Rattle.pp_link.specs.declared.layout.Sizes.{Sizes}
 use Rattle.pp_model.specs.declared.Call.{Call}
 use Rattle.pp_model.specs.Calls.{key_of}
-use Rattle.pp_rule.specs.declared.views.WalkSlot.{WalkSlot}
-use Rattle.pp_rule.specs.Views.{slot, blank}
 use Rattle.pp_base.specs.declared.purse.Purse.{Purse}
 use Rattle.pp_base.specs.Passes.{IsPassOf, IsAtRest, named_of}
 use Rattle.pp_seek.specs.declared.seek.Spot.{Spot}
@@ -17,6 +15,7 @@ use Rattle.pp_trees.specs.Searches.{TreePass}
 use Rattle.pp_trees.specs.Edges.{TreeView}
 use Rattle.pp_turns.proofs.Placing.{unplaced_none}
 use Rattle.pp_turns.proofs.Purses.{alone_none}
+use Rattle.pp_turns.proofs.Resting.{none_named}
 use Rattle.pp_turns.proofs.Stretches.{waits_none}
 use Rattle.pp_tree_calls.specs.declared.going.TreeGoing.{TreeGoing}
 use Rattle.pp_tree_calls.specs.declared.going.Next.{Next}
@@ -24,27 +23,10 @@ use Rattle.pp_tree_calls.specs.Begun.{BeginsOn}
 use Rattle.pp_tree_calls.specs.Going.{IsUnder, Stands, Begun, upper_at}
 use Rattle.pp_tree_calls.specs.Purses.{HasOut}
 
-names_at : (ws : List WalkSlot) (k j : ℕ) → map named_of ws ≡ replicate k zero → (get_or ws j blank).named ≡ 0
-names_at [] k j is = refl
-names_at (w ∷ ws) zero j is = absurd (let long = ap (λ (l : List ℕ). length l) is in omega arith)
-names_at (w ∷ ws) (suc k) zero is = ap (λ (l : List ℕ). get_or l 0 0) is
-names_at (w ∷ ws) (suc k) (suc j) is = names_at ws k j (let rest : map named_of ws ≡ replicate k zero = cc in rest)
-
 -- the walk words of a pass that names no record are empty
 pub all_empty : (z : Sizes) (q : TreePass) (walk : List ℕ) → IsPassOf z q → map named_of q.walk ≡ walk → walk ≡ replicate 5 zero
     → AllEmpty q
-all_empty z q walk p is none j lt = let zero_named : (slot q j).named ≡ 0 = names_at q.walk 5 j (is ∙ none) in record {
-  named = zero_named;
-  free = by ((slot q j).held) refl zero_named;
-}
-  where
-    by : (b : Bool) → (slot q j).held ≡ b → (slot q j).named ≡ 0 → (slot q j).held ≡ false
-    by false held zero_named = held
-    by true held zero_named = let number = p.held j lt held in absurd (let low = number.0 in omega arith)
-
--- a pass at rest stays so as a call begins
-pub rest_going : (q : TreePass) (p p' : Purse) → p' ≡ record p { going = true } → IsAtRest q p → IsAtRest q p'
-rest_going q p p' is r = subst (IsAtRest q) (sym is) record { scan = r.scan; spent = r.spent; frontier = r.frontier }
+all_empty z q walk p is none j lt = let e = none_named z q walk p is none j lt in record { named = e.0; free = e.1 }
 
 module _ (z : Sizes) (share : ℕ) (call : Call) (races : ℕ) (g : TreeGoing) (v : TreeView) (p : Purse) (b : BeginsOn call races g)
     (pair : key_of call < inf0) (some_races : 1 ≤ races) (empty : AllEmpty v.known) (rest : IsAtRest v.known p)

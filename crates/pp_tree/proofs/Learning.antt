@@ -21,7 +21,7 @@ use Rattle.pp_trees.specs.Searches.{TreePass}
 use Rattle.pp_trees.specs.Edges.{TreeView}
 use Rattle.pp_turns.specs.Tallies.{later_of}
 use Rattle.pp_turns.specs.Turns.{Since, Unplaced, WasAbsent}
-use Rattle.pp_turns.proofs.Placing.{waits_learnt, since_learnt, unplaced_on, struck_later, absent_on}
+use Rattle.pp_turns.proofs.Placing.{steps_learnt, waits_learnt, since_learnt, unplaced_on, struck_later, absent_on}
 use Rattle.pp_tree_turns.specs.Walked.{tree_reader, TreeTally}
 use Rattle.pp_tree_turns.specs.Causes.{flagged_leaf, ReadsValueOf, EndedElsewhere}
 use Rattle.pp_tree_turns.specs.Exchanging.{FlagsNext, TagsNext, SplicesNext}
@@ -35,10 +35,6 @@ use Rattle.pp_tree_calls.specs.Purses.{HasOut}
 module _ (z : Sizes) (share : ℕ) (from v w : TreeView) (same : w.known ≡ v.known) (order : BeginsWith w.order v.order)
     (made : made_by v.known.number w.order ≡ made_by v.known.number v.order)
     (placed : placed_by v.known.number w.order ≡ placed_by v.known.number v.order) where
-  steps_same : Went from v → steps_made from w ≡ steps_made from v
-  steps_same g = let now : made_by from.known.number w.order ≡ made_by from.known.number v.order =
-      subst (λ (p : ℕ). made_by p w.order ≡ made_by p v.order) g.number made in cc
-
   unplaced_still : Went from v → Unplaced from v → Unplaced from w
   unplaced_still g u = unplaced_on from v w g.number u placed
 
@@ -55,7 +51,7 @@ module _ (z : Sizes) (share : ℕ) (from v w : TreeView) (same : w.known ≡ v.k
 
   taken_learnt : Went from v → (call : Call) (races value : ℕ) (t : TreeTally) → HasTaken (map_sizes z) call races value t from v
       → HasTaken (map_sizes z) call races value t from w
-  taken_learnt g call races value t h = let leaf = ap flagged_leaf (steps_same g) in record {
+  taken_learnt g call races value t h = let leaf = ap flagged_leaf (steps_learnt from v w same order made placed g) in record {
     memory = h.memory;
     lost = h.lost;
     early = h.early;
@@ -83,7 +79,7 @@ module _ (z : Sizes) (share : ℕ) (from v w : TreeView) (same : w.known ≡ v.k
       (λ (l : (v.known.own.flag ≡ across (side_number side)) × (v.known.own.beside ≡ flagged_leaf (steps_made from v))).
       inl (
         ap (λ (q : TreePass). q.own.flag) same ∙ l.0,
-        ap (λ (q : TreePass). q.own.beside) same ∙ (l.1 ∙ sym (ap flagged_leaf (steps_same went))),
+        ap (λ (q : TreePass). q.own.beside) same ∙ (l.1 ∙ sym (ap flagged_leaf (steps_learnt from v w same order made placed went))),
       ))
       (λ (r : EndedElsewhere (map_sizes z) g.call (later_of t)). inr r) (s struck)
 

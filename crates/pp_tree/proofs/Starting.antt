@@ -1,4 +1,4 @@
--- A tree opens with its sentinels alone attached.
+-- A tree opens with five records attached, and no more.
 use Rattle.std.proofs.Common.{List, length, sym, subst}
 use Rattle.pp_link.specs.declared.layout.Sizes.{Sizes}
 use Rattle.pp_link.specs.Places.{IsWithin}

@@ -33,8 +33,8 @@ pub struct Tree {
 }
 
 impl Tree {
-    /// An empty tree over so many records, and a pass for each caller, the one with the number 0 first. Five of the records are
-    /// the sentinels, and no other one is attached. It takes all the memory that any later call but `close` needs.
+    /// An empty tree over so many records, and a pass for each caller, the one with the number 0 first. Exactly five records are
+    /// attached to it. It takes all the memory that any later call but `close` needs.
     ///
     /// There are 1 to 64 passes and 8 to 262,144 records.
     ///

@@ -6,7 +6,8 @@ use Rattle.pp_calls.specs.PoolViews.{pool_view}
 use Rattle.pp_trees.specs.Trees.{inf0}
 use Rattle.pp_seek.proofs.LoneSpots.{sees_of}
 use Rattle.pp_tree_calls.proofs.AloneLearns.{lone_begun}
-use Rattle.pp_tree.proofs.Beginning.{under_begun, all_empty, rest_going}
+use Rattle.pp_turns.proofs.Resting.{rest_going}
+use Rattle.pp_tree.proofs.Beginning.{under_begun, all_empty}
 use Rattle.pp_tree.proofs.calls.TreeMapCalls.begin.Goals as goal
 
 pub returns-clause-going : goal.returns-clause-going
