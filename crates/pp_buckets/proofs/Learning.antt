@@ -1,5 +1,5 @@
 -- A call is under way still where its pass learnt of more steps of others.
-use Rattle.std.proofs.Common.{◌≡◌, ℕ, ◌<◌, Bool, true, false, List, length}
+use Rattle.std.proofs.Common.{◌≡◌, ℕ, ◌<◌, Bool, true, false, List}
 use Rattle.std.proofs.Common.{sym, ap, ◌∙◌, subst}
 use Rattle.pp_link.specs.declared.layout.Sizes.{Sizes}
 use Rattle.pp_model.specs.declared.Call.{Call}
@@ -11,7 +11,6 @@ use Rattle.pp_rule.specs.Orders.{log_of, made_by, placed_by}
 use Rattle.pp_rule.proofs.Histories.{log_begins}
 use Rattle.pp_base.specs.declared.purse.Purse.{Purse}
 use Rattle.pp_base.specs.Passes.{IsAtRest}
-use Rattle.pp_calls.specs.PoolViews.{link_writes}
 use Rattle.pp_calls.specs.Steps.{Went}
 use Rattle.pp_shelf.specs.Runs.{map_sizes, steps_made}
 use Rattle.pp_lists.specs.Lists.{ListPass}
@@ -19,6 +18,7 @@ use Rattle.pp_lists.specs.Turns.{ListView}
 use Rattle.pp_lists.specs.Losses.{list_reader}
 use Rattle.pp_turns.specs.Tallies.{losing, effected}
 use Rattle.pp_turns.specs.Turns.{Since, Unplaced, WasAbsent}
+use Rattle.pp_turns.proofs.Purses.{carries_learnt}
 use Rattle.pp_turns.proofs.Placing.{steps_learnt, waits_learnt, since_learnt, unplaced_on, struck_later, absent_on}
 use Rattle.pp_walk.specs.Roles.{IsWalk, IsFound}
 use Rattle.pp_walk.specs.Effects.{MayFill}
@@ -113,21 +113,6 @@ module _ (z : Sizes) (share : ℕ) (from v w : ListView) (same : w.known ≡ v.k
     below = x.below;
     struck = x.struck;
     rest = subst (λ (q : ListPass). IsAtRest q p) (sym same) x.rest;
-    carries = record {
-      sizes = ap (λ (q : ListPass). q.sizes) same ∙ x.carries.sizes;
-      out = subst (λ (q : ListPass). HasOut q p g.fresh) (sym same) x.carries.out;
-      kept = x.carries.kept;
-      same = x.carries.same;
-      none = x.carries.none;
-      alone = λ looks. let a = x.carries.alone looks in record {
-        wrote = wrote ∙ a.wrote;
-        free = a.free;
-        retired = ap (λ (q : ListPass). q.retired) same ∙ a.retired;
-        chains = ap (λ (q : ListPass). length q.chains) same ∙ a.chains;
-      };
-    };
+    carries = carries_learnt HasOut 1 share g.call g.fresh from v w free p same made x.carries;
     stands = stands_learnt g.call g.races g.lost g.next x.stands;
   }
-    where
-      wrote : link_writes w.known.sizes (made_by w.known.number w.order) ≡ link_writes v.known.sizes (made_by v.known.number v.order)
-      wrote = ap (λ (q : ListPass). link_writes q.sizes (made_by q.number w.order)) same ∙ ap (link_writes v.known.sizes) made

@@ -42,7 +42,7 @@ use Rattle.pp_turns.specs.Answers.{SaysBy}
 use Rattle.pp_turns.specs.Tallies.{losing}
 use Rattle.pp_turns.specs.Turns.{Since, Replied}
 use Rattle.pp_turns.proofs.Placing.{replied_later, unplaced_on, after_longer}
-use Rattle.pp_turns.proofs.Purses.{alone_on}
+use Rattle.pp_turns.proofs.Purses.{carries_on}
 use Rattle.pp_turns.proofs.Stretches.{since_on, saw_on, steps_named, own_before}
 use Rattle.pp_walk.proofs.Counting.{walks_write_none}
 use Rattle.pp_walk.specs.declared.walk.Found.{Found}
@@ -81,19 +81,17 @@ idles_quiet v w q = kinds_none (steps_made v w) (λ n i. walks_write_none n.kind
 -- what a call has of its purse over steps that write no link, after which the same is known of its pass
 pub carries_idle : (share : ℕ) (call : Call) (fresh : Option Fresh) (z : Sizes) (from v w : ListView) (free : List ℕ) (p : Purse)
     → Idles v w → w.known ≡ v.known → Carries share call fresh from v free p → Carries share call fresh from w free p
-carries_idle share call fresh z from v w free p q same k = record {
-  sizes = ap (λ (x : ListPass). x.sizes) same ∙ k.sizes;
-  out = subst (λ (x : ListPass). HasOut x p fresh) (sym same) k.out;
-  kept = k.kept;
-  same = k.same;
-  none = k.none;
-  alone = λ looks. alone_on from v w free p.free.items p.free.items share (k.alone looks) (calm_quiet z call v w q).stepped
-      (idles_quiet v w q) record {
+carries_idle share call fresh z from v w free p q same k = carries_on HasOut 1 share call fresh from v w free p p
+    (ap (λ (x : ListPass). x.sizes) same) (subst (λ (x : ListPass). HasOut x p fresh) (sym same)) refl
+    (λ _. (
+      (calm_quiet z call v w q).stepped,
+      idles_quiet v w q,
+      record {
         sizes = ap (λ (x : ListPass). x.sizes) same;
         retired = ap (λ (x : ListPass). x.retired) same;
         chains = ap (λ (x : ListPass). length x.chains) same;
-      } refl;
-}
+      },
+    )) k
 
 module _ (z : Sizes) (share : ℕ) (g : ListGoing) (f : Found) (v u : ListView) (p : Purse) (idle : Idles v u) (same : u.known ≡ v.known)
   where
@@ -128,7 +126,8 @@ module _ (z : Sizes) (share : ℕ) (g : ListGoing) (f : Found) (v u : ListView) 
                       memory = r.0;
                       since = on;
                       few = few;
-                      replied = replied_later g.call said v.known.own.start from v u k.since.went.number calm.stepped.order settled calm.unplaced;
+                      replied = replied_later g.call said v.known.own.start from v u k.since.went.number calm.stepped.order settled
+                          calm.unplaced;
                     };
                 last = saw_on from v u k.since.went k.last calm.stepped;
                 sizes = c.sizes;

@@ -33,7 +33,7 @@ use Rattle.pp_lists.specs.Losses.{list_reader}
 use Rattle.pp_turns.specs.Tallies.{losing}
 use Rattle.pp_turns.specs.Turns.{Ran, Since, SawLast, Unplaced, Replied}
 use Rattle.pp_turns.proofs.Placing.{unplaced_on, replied_on}
-use Rattle.pp_turns.proofs.Purses.{alone_on}
+use Rattle.pp_turns.proofs.Purses.{carries_on}
 use Rattle.pp_turns.proofs.Stretches.{since_first, since_on, saw_last, stepped_steps, stretch_both, own_before}
 use Rattle.pp_walk.proofs.Counting.{walks_write_none}
 use Rattle.pp_walk.specs.declared.walk.Walk.{Walk}
@@ -121,18 +121,16 @@ module _ (z : Sizes) (call : Call) (n lost : ℕ) (calls : List Placed) (own : L
 pub carries_rest : (share : ℕ) (call : Call) (fresh : Option Fresh) (from v u : ListView) (free : List ℕ) (p : Purse) → Stepped v u
     → WriteNone (steps_made v u) → SameRest v.known u.known → Carries share call fresh from v free p → Carries share call fresh from u free
     p
-carries_rest share call fresh from v u free p s none rest k = record {
-  sizes = rest.sizes ∙ k.sizes;
-  out = out fresh k.out;
-  kept = k.kept;
-  same = k.same;
-  none = k.none;
-  alone = λ looks. alone_on from v u free p.free.items p.free.items share (k.alone looks) s none record {
-    sizes = rest.sizes;
-    retired = rest.retired_are;
-    chains = ap (λ (l : List Chain). length l) rest.chains;
-  } refl;
-}
+carries_rest share call fresh from v u free p s none rest k = carries_on HasOut 1 share call fresh from v u free p p rest.sizes (out fresh)
+    refl (λ _. (
+      s,
+      none,
+      record {
+        sizes = rest.sizes;
+        retired = rest.retired_are;
+        chains = ap (λ (l : List Chain). length l) rest.chains;
+      },
+    )) k
   where
     out : (f : Option Fresh) → HasOut v.known p f → HasOut u.known p f
     out None o = o

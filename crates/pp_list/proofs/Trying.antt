@@ -50,6 +50,7 @@ use Rattle.pp_lists.proofs.Losing.{finds_none}
 use Rattle.pp_turns.specs.Tallies.{losing}
 use Rattle.pp_turns.specs.Turns.{Since, WasAbsent}
 use Rattle.pp_turns.proofs.Placing.{unplaced_made, unplaced_on, absent_on}
+use Rattle.pp_turns.proofs.Purses.{carries_on}
 use Rattle.pp_turns.proofs.Stretches.{since_on, saw_last, steps_named, stretch_both}
 use Rattle.pp_walk.specs.declared.walk.Found.{Found}
 use Rattle.pp_walk.specs.Effects.{Tried, MayFill, DetachesSo}
@@ -89,14 +90,9 @@ tried_long z v u t passes = by (steps_made v u) (steps_named t.steps v u t.did)
 pub carries_changed : (share : ℕ) (call : Call) (fresh : Option Fresh) (from v u : ListView) (free : List ℕ) (p q : Purse)
     → u.known.sizes ≡ v.known.sizes → u.known.owned ≡ v.known.owned → SameFree p q → is_look call ≡ false
     → Carries share call fresh from v free p → Carries share call fresh from u free q
-carries_changed share call fresh from v u free p q sizes owned same changing k = record {
-  sizes = sizes ∙ k.sizes;
-  out = out fresh k.out;
-  kept = let e = ap (λ f. length f.items) same.free in let kept = k.kept in omega arith;
-  same = λ none. ap (λ f. f.items) same.free ∙ k.same none;
-  none = k.none;
-  alone = λ looks. absurd (false≢true (sym changing ∙ looks));
-}
+carries_changed share call fresh from v u free p q sizes owned same changing k =
+    carries_on HasOut 1 share call fresh from v u free p q sizes (out fresh) (ap (λ f. f.items) same.free)
+    (λ looks. absurd (false≢true (sym changing ∙ looks))) k
   where
     out : (f : Option Fresh) → HasOut v.known p f → HasOut u.known q f
     out None o = same.taken ∙ o

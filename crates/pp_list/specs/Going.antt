@@ -1,5 +1,5 @@
 -- A call on a list that is going on, by the views of its pass.
-use Rattle.std.specs.Prelude.{◌≡◌, ◌≢◌, ◌⊎◌, ℕ, ◌^◌, ◌<◌, Bool, true, false, cond, List, Option, None}
+use Rattle.std.specs.Prelude.{◌≡◌, ◌≢◌, ◌⊎◌, ℕ, ◌^◌, ◌<◌, Bool, true, false, cond, List, Option}
 use Rattle.pp_link.specs.declared.layout.Sizes.{Sizes}
 use Rattle.pp_pool.specs.declared.fresh.Fresh.{Fresh}
 use Rattle.pp_model.specs.declared.Call.{Call}
@@ -8,21 +8,20 @@ use Rattle.pp_model.specs.declared.Reply.TheVariants.{Took}
 use Rattle.pp_model.specs.declared.steps.Step.{Step}
 use Rattle.pp_model.specs.Calls.{key_of, Takes}
 use Rattle.pp_model.specs.Pass.{GoingView}
-use Rattle.pp_model.specs.MapCalls.{LeftAlone}
 use Rattle.pp_rule.specs.Orders.{log_of}
 use Rattle.pp_rule.specs.Views.{slot, value_of}
 use Rattle.pp_rule.specs.Lists.{IsIn}
 use Rattle.pp_base.specs.declared.purse.Purse.{Purse}
 use Rattle.pp_base.specs.Named.{NamedStep}
 use Rattle.pp_base.specs.Passes.{IsAtRest}
-use Rattle.pp_calls.specs.PoolViews.{pool_view}
 use Rattle.pp_shelf.specs.Runs.{map_sizes, steps_made}
 use Rattle.pp_lists.specs.Lists.{ListPass}
 use Rattle.pp_lists.specs.Walks.{bucket, numbers}
 use Rattle.pp_lists.specs.Turns.{ListView}
 use Rattle.pp_lists.specs.Losses.{list_reader}
+use Rattle.pp_turns.specs.Purses as purses
 use Rattle.pp_turns.specs.Tallies.{losing, effected}
-use Rattle.pp_turns.specs.Turns.{Since, Waits, Unplaced, Struck, WasAbsent, Kept}
+use Rattle.pp_turns.specs.Turns.{Since, Waits, Unplaced, Struck, WasAbsent}
 use Rattle.pp_walk.specs.Roles.{IsWalk, IsFound, lower_of, is_look}
 use Rattle.pp_walk.specs.Effects.{MayFill, MayDetachRun}
 use Rattle.pp_walk.specs.Parts.{GathersNone}
@@ -31,7 +30,7 @@ use Rattle.pp_list.specs.declared.going.Marked.{Marked}
 use Rattle.pp_list.specs.declared.going.Next.{Next}
 use Rattle.pp_list.specs.declared.going.Next.TheVariants.{Walks, Detaches, Marks, Publishes, Unlinks, Over}
 use Rattle.pp_list.specs.Causes.{taken_by}
-use Rattle.pp_list.specs.Purses.{HasOut, out_of}
+use Rattle.pp_list.specs.Purses.{HasOut}
 
 -- The kind of the next turn: the first one, a later one of the walk, and those behind the walk, in their order.
 abbrev pub kind_of : Next → ℕ
@@ -128,14 +127,8 @@ Stands z call races lost (Unlinks m) from now = (n : ℕ) × (HasTaken z call ra
 Stands z call races lost Over from now = ⊥
 
 -- What the call has of the purse of its pass, whose free numbers at its begin were these.
-pub record Carries (share : ℕ) (call : Call) (fresh : Option Fresh) (from now : ListView) (free : List ℕ) (p : Purse) : Type 0 where
-  pub sizes : now.known.sizes ≡ from.known.sizes
-  pub out : HasOut now.known p fresh
-  pub kept : Kept free share p.free.items (out_of fresh)
-  pub same : fresh ≡ None → p.free.items ≡ free
-  -- a call that only looks takes no record, and has left all as it was
-  pub none : is_look call ≡ true → fresh ≡ None
-  pub alone : is_look call ≡ true → LeftAlone (pool_view from free share) (pool_view now p.free.items share)
+abbrev pub Carries : ℕ → Call → Option Fresh → ListView → ListView → List ℕ → Purse → Type 0
+Carries share call fresh from now free p = purses.Carries HasOut 1 share call fresh from now free p
 
 -- The call is under way on a pass with this share: it was begun at this view, with these free numbers.
 pub record IsUnder (z : Sizes) (share : ℕ) (g : ListGoing) (now : ListView) (p : Purse) (from : ListView) (free : List ℕ)

@@ -1,22 +1,18 @@
 -- What a call on a list has of its purse, and what its parts make of it.
-use Rattle.std.specs.Prelude.{◌≡◌, ℕ, ◌+◌, ◌≤◌, Bool, List, length, Option, Some, None}
+use Rattle.std.specs.Prelude.{◌≡◌, ℕ, Bool, Option, Some, None}
 use Rattle.pp_link.specs.declared.layout.Sizes.{Sizes}
 use Rattle.pp_pool.specs.declared.fresh.Fresh.{Fresh}
 use Rattle.pp_pool.specs.Taken.{IsPrivate}
 use Rattle.pp_base.specs.declared.purse.Purse.{Purse}
-use Rattle.pp_base.specs.Named.{NamedStep}
-use Rattle.pp_purse.specs.Purses.{RanOut}
-use Rattle.pp_purse.specs.Steps.{PurseSteps}
 use Rattle.pp_lists.specs.Lists.{ListPass}
 use Rattle.pp_lists.specs.Turns.{ListView}
 use Rattle.pp_turns.specs.Causes.{Aside}
-use Rattle.pp_turns.specs.Purses as ends
+use Rattle.pp_turns.specs.Purses as purses
 use Rattle.pp_walk.specs.Trod.{Idles}
 
 -- how many records are out
 abbrev pub out_of : Option Fresh → ℕ
-out_of None = 0
-out_of (Some f) = 1
+out_of fresh = purses.out_of 1 fresh
 
 -- no record is out, or this one, which is private
 abbrev pub HasOut : ListPass → Purse → Option Fresh → Type 0
@@ -25,30 +21,23 @@ HasOut q p (Some f) = IsPrivate q p f.number × (p.taken ≡ 1)
 
 -- A call that only looked cleared its walk words.
 abbrev pub LooksAway : ListView → ListView → Purse → Purse → Type 0
-LooksAway v w p p' = ends.LooksAway Idles v w p p'
+LooksAway v w p p' = purses.LooksAway Idles v w p p'
 
 -- A call cleared its walk words, gave its record back and tidied.
 abbrev pub TidiesUp : Sizes → ℕ → Option Fresh → ListView → ListView → Purse → Purse → Type 0
-TidiesUp z share fresh v w p p' = ends.TidiesUp Idles z share (out_of fresh) v w p p'
+TidiesUp z share fresh v w p p' = purses.TidiesUp Idles z share (out_of fresh) v w p p'
 
 -- what ends a call, by whether it only looked
 abbrev pub Leaves : Bool → Sizes → ℕ → Option Fresh → ListView → ListView → Purse → Purse → Type 0
-Leaves looks z share fresh v w p p' = ends.Leaves Idles looks z share (out_of fresh) v w p p'
+Leaves looks z share fresh v w p p' = purses.Leaves Idles looks z share (out_of fresh) v w p p'
 
 -- A call that had one of its records out already, or none, has this one out. Of the free ones but for it none is gone.
-pub record TakesOne (z : Sizes) (had : Option Fresh) (f : Fresh) (v w : ListView) (p p' : Purse) : Type 0 where
-  pub names : List NamedStep
-  pub steps : PurseSteps z names v w
-  pub out : HasOut w.known p' (Some f)
-  pub kept : length p.free.items + out_of had ≤ length p'.free.items + 1
+abbrev pub TakesOne : Sizes → Option Fresh → Fresh → ListView → ListView → Purse → Purse → Type 0
+TakesOne z had f v w p p' = purses.Takes HasOut 1 z had f v w p p'
 
 -- It had none out, and found none.
-pub record TakesNone (z : Sizes) (had : Option Fresh) (v w : ListView) (p p' : Purse) : Type 0 where
-  pub none : had ≡ None
-  pub names : List NamedStep
-  pub steps : PurseSteps z names v w
-  pub ran_out : RanOut z 1 v w p p'
-  pub taken : p'.taken ≡ 0
+abbrev pub TakesNone : Sizes → Option Fresh → ListView → ListView → Purse → Purse → Type 0
+TakesNone z had v w p p' = purses.TakesNone 1 z had v w p p'
 
 -- The pass made stores in its private records, and nothing else of it changed.
 pub record WritesAside (z : Sizes) (v w : ListView) : Type 0 where

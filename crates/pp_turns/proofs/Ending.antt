@@ -1,5 +1,5 @@
 -- A call that is ended meets its clauses.
-use Rattle.std.proofs.Common.{◌≡◌, ◌⊎◌, ℕ, ◌+◌, ◌-◌, ◌≤◌, Bool, true, false, List, ◌++◌, length, refl, sym, ap, ◌∙◌}
+use Rattle.std.proofs.Common.{◌≡◌, ℕ, ◌+◌, ◌-◌, ◌≤◌, Bool, true, false, List, ◌++◌, length, refl, sym, ap, ◌∙◌}
 use Rattle.std.proofs.Common.{subst, ⊎_elim, inl, inr, append_assoc, length-append, arith}
 use Rattle.pp_link.specs.declared.layout.Sizes.{Sizes}
 use Rattle.pp_model.specs.declared.Answer.{Answer}
@@ -14,7 +14,7 @@ use Rattle.pp_model.specs.declared.steps.OrderEntry.{OrderEntry}
 use Rattle.pp_model.specs.declared.steps.Step.{Step}
 use Rattle.pp_model.specs.Calls.{changes}
 use Rattle.pp_model.specs.MapCalls.{LeftAlone, LeavesPurse, Tidied, Answered}
-use Rattle.pp_model.specs.Pass.{MapSizes, Meaning, steps_of, replayed}
+use Rattle.pp_model.specs.Pass.{MapSizes, Meaning, steps_of}
 use Rattle.pp_rule.specs.declared.views.SeatView.{SeatView}
 use Rattle.pp_rule.specs.Causes.{PoolWords, CauseWords, pool_meaning, WasDetached}
 use Rattle.pp_rule.specs.Orders.{made_by, entries_of}
@@ -28,7 +28,7 @@ use Rattle.pp_turns.specs.Answers.{is_look, spends_of, IsSettled, Calm, SaysPlai
 use Rattle.pp_turns.specs.Causes.{TookBy, PassesOver}
 use Rattle.pp_turns.specs.Purses.{TidiesUp, Leaves}
 use Rattle.pp_turns.specs.Tallies.{Tally, losing, effected}
-use Rattle.pp_turns.specs.Turns.{Since, SawLast, Kept}
+use Rattle.pp_turns.specs.Turns.{SawLast, Kept}
 use Rattle.pp_turns.proofs.Answering.{says_plain, says_struck, gave_up}
 use Rattle.pp_turns.proofs.Aside.{aside_at_purse}
 use Rattle.pp_turns.proofs.Calm.{calm_aside, calm_both}

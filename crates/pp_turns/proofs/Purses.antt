@@ -1,13 +1,15 @@
 -- What a whole call leaves of its purse, from what its parts leave.
-use Rattle.std.proofs.Common.{◌≡◌, ℕ, ◌+◌, ◌*◌, ◌<◌, ◌≤◌, min, List, [], ◌∷◌, ◌++◌, length, take, refl, sym, ap, ◌∙◌}
+use Rattle.std.proofs.Common.{◌≡◌, ℕ, ◌+◌, ◌*◌, ◌<◌, ◌≤◌, min, Option, true, List, [], ◌∷◌, ◌++◌, length, take, refl, sym, ap, ◌∙◌}
 use Rattle.std.proofs.Common.{subst, ⊎_elim, inl, inr, append_assoc, length-append, arith}
 use Rattle.pp_link.specs.declared.layout.Sizes.{Sizes}
+use Rattle.pp_model.specs.declared.Call.{Call}
 use Rattle.pp_model.specs.declared.Change.{Change}
 use Rattle.pp_model.specs.declared.Placed.{Placed}
 use Rattle.pp_model.specs.declared.steps.Step.{Step}
 use Rattle.pp_model.specs.Lists.{IsPrefix}
 use Rattle.pp_model.specs.MapCalls.{LeftAlone, Tidied, FullPurse}
 use Rattle.pp_model.specs.Pass.{MapSizes, Meaning, steps_since}
+use Rattle.pp_rule.specs.declared.views.PassState.{PassState}
 use Rattle.pp_rule.specs.declared.views.SeatView.{SeatView}
 use Rattle.pp_rule.specs.Causes.{FoundTaken, FoundNone, owned_after}
 use Rattle.pp_rule.specs.Orders.{made_by}
@@ -20,6 +22,8 @@ use Rattle.pp_calls.proofs.Growing.{writes_append, none_written, stepped_made}
 use Rattle.pp_shelf.specs.Runs.{map_sizes, steps_made}
 use Rattle.pp_purse.specs.Purses.{TidiesPurse, RanOut}
 use Rattle.pp_purse.proofs.Stretches.{owned_made}
+use Rattle.pp_turns.specs.Answers.{is_look}
+use Rattle.pp_turns.specs.Purses.{Carries}
 use Rattle.pp_turns.specs.Turns.{Kept}
 use Rattle.pp_base.proofs.Named.{made_append}
 use Rattle.pp_turns.proofs.Stretches.{stepped_steps, steps_both, stretch_both}
@@ -57,6 +61,40 @@ module _ {W : Type 0} where
       wrote : link_writes w.known.sizes (made_by w.known.number w.order) ≡ link_writes v.known.sizes (made_by n v.order)
       wrote = ap (λ (z : Sizes). link_writes z (made_by w.known.number w.order)) p.sizes
           ∙ (ap (λ (p : ℕ). link_writes v.known.sizes (made_by p w.order)) s.number ∙ (omega (arith, parts, none_made)))
+
+-- What a call has of its purse stays.
+module _ {W R : Type 0} (HasOut : PassState W → Purse → Option R → Type 0) (need share : ℕ) (call : Call) (records : Option R)
+    (from v w : SeatView Change Placed W) (free : List ℕ) where
+  -- over steps of which those of a call that only looks wrote no link
+  pub carries_on : (p p' : Purse) → w.known.sizes ≡ v.known.sizes → (HasOut v.known p records → HasOut w.known p' records)
+      → p'.free.items ≡ p.free.items → (is_look call ≡ true → Stepped v w × WriteNone (steps_made v w) × SamePurse v w)
+      → Carries HasOut need share call records from v free p → Carries HasOut need share call records from w free p'
+  carries_on p p' sizes out same looks k = record {
+    sizes = sizes ∙ k.sizes;
+    out = out k.out;
+    kept = let few = k.kept in let e = ap (λ (l : List ℕ). length l) same in omega arith;
+    same = λ none. same ∙ k.same none;
+    none = k.none;
+    alone = λ is. let l = looks is in alone_on from v w free p.free.items p'.free.items share (k.alone is) l.0 l.1 l.2 same;
+  }
+
+  -- over what its pass learns of the steps of others
+  pub carries_learnt : (p : Purse) → w.known ≡ v.known → made_by v.known.number w.order ≡ made_by v.known.number v.order
+      → Carries HasOut need share call records from v free p → Carries HasOut need share call records from w free p
+  carries_learnt p same made k = record {
+    sizes = ap (λ (q : PassState W). q.sizes) same ∙ k.sizes;
+    out = subst (λ (q : PassState W). HasOut q p records) (sym same) k.out;
+    kept = k.kept;
+    same = k.same;
+    none = k.none;
+    alone = λ looks. let a = k.alone looks in record {
+      wrote = (ap (λ (q : PassState W). link_writes q.sizes (made_by q.number w.order)) same ∙ ap (link_writes v.known.sizes) made)
+          ∙ a.wrote;
+      free = a.free;
+      retired = ap (λ (q : PassState W). q.retired) same ∙ a.retired;
+      chains = ap (λ (q : PassState W). length q.chains) same ∙ a.chains;
+    };
+  }
 
 -- what was found taken, was found so by more steps
 pub taken_among : (z : MapSizes) (xs ys : List Step) → FoundTaken z ys → FoundTaken z (xs ++ ys)
