@@ -1,5 +1,5 @@
 -- A call is under way still where its pass learnt of more steps of others.
-use Rattle.std.proofs.Common.{◌≡◌, ℕ, Bool, true, false, List, length}
+use Rattle.std.proofs.Common.{◌≡◌, ℕ, Bool, true, false, List}
 use Rattle.std.proofs.Common.{Option, sym, ap, ◌∙◌, subst, ⊎_elim, inl, inr}
 use Rattle.pp_link.specs.declared.layout.Sizes.{Sizes}
 use Rattle.pp_model.specs.declared.Call.{Call}
@@ -11,7 +11,6 @@ use Rattle.pp_base.specs.declared.purse.Purse.{Purse}
 use Rattle.pp_base.specs.declared.source.Side.{Side}
 use Rattle.pp_base.specs.Passes.{IsAtRest}
 use Rattle.pp_base.specs.Sources.{side_number}
-use Rattle.pp_calls.specs.PoolViews.{link_writes}
 use Rattle.pp_calls.specs.Steps.{Went}
 use Rattle.pp_shelf.specs.Runs.{map_sizes, steps_made}
 use Rattle.pp_seek.specs.declared.seek.Spot.{Spot}
@@ -21,6 +20,7 @@ use Rattle.pp_trees.specs.Searches.{TreePass}
 use Rattle.pp_trees.specs.Edges.{TreeView}
 use Rattle.pp_turns.specs.Tallies.{later_of}
 use Rattle.pp_turns.specs.Turns.{Since, Unplaced, WasAbsent}
+use Rattle.pp_turns.proofs.Purses.{carries_learnt}
 use Rattle.pp_turns.proofs.Placing.{steps_learnt, waits_learnt, since_learnt, unplaced_on, struck_later, absent_on}
 use Rattle.pp_tree_turns.specs.Walked.{tree_reader, TreeTally}
 use Rattle.pp_tree_turns.specs.Causes.{flagged_leaf, ReadsValueOf, EndedElsewhere}
@@ -152,21 +152,6 @@ module _ (z : Sizes) (share : ℕ) (from v w : TreeView) (same : w.known ≡ v.k
     below = x.below;
     rest = subst (λ (q : TreePass). IsAtRest q p) (sym same) x.rest;
     looks = x.looks;
-    carries = record {
-      sizes = ap (λ (q : TreePass). q.sizes) same ∙ x.carries.sizes;
-      out = subst (λ (q : TreePass). HasOut q p g.records) (sym same) x.carries.out;
-      kept = x.carries.kept;
-      same = x.carries.same;
-      none = x.carries.none;
-      alone = λ looks. let a = x.carries.alone looks in record {
-        wrote = wrote ∙ a.wrote;
-        free = a.free;
-        retired = ap (λ (q : TreePass). q.retired) same ∙ a.retired;
-        chains = ap (λ (q : TreePass). length q.chains) same ∙ a.chains;
-      };
-    };
+    carries = carries_learnt HasOut 2 share g.call g.records from v w free p same made x.carries;
     stands = stands_learnt g g.next x.stands;
   }
-    where
-      wrote : link_writes w.known.sizes (made_by w.known.number w.order) ≡ link_writes v.known.sizes (made_by v.known.number v.order)
-      wrote = ap (λ (q : TreePass). link_writes q.sizes (made_by q.number w.order)) same ∙ ap (link_writes v.known.sizes) made

@@ -37,6 +37,7 @@ use Rattle.pp_seek.specs.Seeking.{IsSought}
 use Rattle.pp_trees.specs.Trees.{IsRight, across}
 use Rattle.pp_trees.specs.Searches.{TreePass}
 use Rattle.pp_trees.specs.Edges.{TreeView}
+use Rattle.pp_turns.proofs.Purses.{carries_on}
 use Rattle.pp_turns.proofs.Answering.{told_as}
 use Rattle.pp_turns.specs.Tallies.{losing, effected, lost_of, later_of}
 use Rattle.pp_turns.specs.Turns.{Since, Replied}
@@ -56,7 +57,7 @@ use Rattle.pp_tree_calls.specs.Answers.{Ends}
 use Rattle.pp_tree_calls.specs.Turned.{SameGoing, Part, EndedAt, found_by, Idles, HasArrived, HasEnded}
 use Rattle.pp_tree_calls.proofs.Closing.{leaf_settled}
 use Rattle.pp_tree_calls.proofs.Losing.{ends_high}
-use Rattle.pp_tree_calls.proofs.Lasting.{counts_on, losing_on, taken_on, carries_on}
+use Rattle.pp_tree_calls.proofs.Lasting.{counts_on, losing_on, taken_on}
 
 -- what was right at a place stays so
 pub right_on : (longer log : List Change) (start k : ℕ) (a : Option ℕ) → BeginsWith longer log → IsRight log start k a
@@ -172,7 +173,7 @@ module _ (z : Sizes) (share : ℕ) (g : TreeGoing) (s : Sought) (v u : TreeView)
         ended = λ on. subst (λ (q : TreePass). EndedAt (word_of s.edge) (slot q s.word).key
             (later_of (moved k.counts.tally a.memory 0 (steps_made v u))))
             (sym idle.known) (ended_later k.counts.tally a.memory (word_of s.edge) (slot v.known s.word).key (k.ended on));
-        carries = carries_on share g.call g.records from v u free p p (ap (λ (q : TreePass). q.sizes) idle.known)
+        carries = carries_on HasOut 2 share g.call g.records from v u free p p (ap (λ (q : TreePass). q.sizes) idle.known)
             (λ out. subst (λ (q : TreePass). HasOut q p g.records) (sym idle.known) out) refl
             (λ looks. (
               idle.stepped,
@@ -209,7 +210,8 @@ module _ (z : Sizes) (share : ℕ) (g : TreeGoing) (s : Sought) (v : TreeView) (
                   (sym plain) record {
                     start = v.known.own.start;
                     memory = l.memory;
-                    since = subst (λ (x : TreeTally). Since tree_reader (map_sizes z) g.call v.known.own.start x from v) l.is k.counts.since;
+                    since = subst (λ (x : TreeTally). Since tree_reader (map_sizes z) g.call v.known.own.start x from v) l.is
+                        k.counts.since;
                     few = omega (arith, few, lost);
                     replied = subst (λ (r : Reply). Replied g.call r v.known.own.start from v) is (k.settled off (ap changes is ∙ plain));
                   };

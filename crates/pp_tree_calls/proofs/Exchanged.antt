@@ -15,6 +15,7 @@ use Rattle.pp_model.specs.Pass.{MapSizes}
 use Rattle.pp_rule.specs.Causes.{WasDetached, pool_sizes}
 use Rattle.pp_rule.specs.Orders.{made_by, entries_of}
 use Rattle.pp_calls.proofs.Growing.{stepped_none}
+use Rattle.pp_turns.proofs.Purses.{carries_on}
 use Rattle.pp_turns.proofs.Answering.{told_as}
 use Rattle.pp_turns.proofs.Stretches.{steps_none}
 use Rattle.pp_seek.specs.Trails.{reads}
@@ -62,7 +63,7 @@ use Rattle.pp_tree_calls.specs.Answers.{MayEnd, Ends}
 use Rattle.pp_tree_calls.specs.Turned.{Part, HasMissed, TreeTurned}
 use Rattle.pp_tree_calls.proofs.Closing.{leaf_settled}
 use Rattle.pp_tree_calls.proofs.Losing.{ends_high}
-use Rattle.pp_tree_calls.proofs.Lasting.{counts_on, tries_on, carries_on}
+use Rattle.pp_tree_calls.proofs.Lasting.{counts_on, tries_on}
 use Rattle.pp_tree_calls.proofs.Treading.{some_named}
 use Rattle.pp_tree_calls.proofs.Arriving.{over_same}
 
@@ -91,7 +92,7 @@ module _ (z : Sizes) (share : ℕ) (g : TreeGoing) (v u : TreeView) (p p' : Purs
   has_missed from free under change t a none start some sizes owned same taken = record {
     tries = tries_on (map_sizes z) g g.lost (g.lost + 1) 1 from v u t a refl none start;
     last = saw_last from v u t.counts.since.went a.ran.stepped some;
-    carries = carries_on share g.call g.records from v u free p p' sizes
+    carries = carries_on HasOut 2 share g.call g.records from v u free p p' sizes
         (out_free g.records v.known u.known p p' owned same taken) (ap (λ f. f.items) same)
         (λ looks. absurd (false≢true (sym change ∙ looks))) under.carries;
   }
@@ -171,7 +172,7 @@ module _ (z : Sizes) (share : ℕ) (g : TreeGoing) (s : Sought) (v u : TreeView)
         below = under.below;
         rest = rest;
         looks = under.looks;
-        carries = carries_on share g.call g.records from v u free p p' e.rest.sizes
+        carries = carries_on HasOut 2 share g.call g.records from v u free p p' e.rest.sizes
             (out_free g.records v.known u.known p p' (tag_none (word_of sibling) e) (ap (λ (x : Purse). x.free) same)
             (ap (λ (x : Purse). x.taken) same)) (ap (λ (x : Purse). x.free.items) same)
             (λ looks. absurd (false≢true (sym k.1.1.0 ∙ looks))) under.carries;
@@ -271,7 +272,7 @@ module _ (z : Sizes) (share : ℕ) (g : TreeGoing) (s : Sought) (v u : TreeView)
       frontier = under.rest.frontier;
     });
     looks = λ looks. absurd (false≢true (sym k.1.1.1.0 ∙ looks));
-    carries = carries_on share g.call g.records from v u free p p' (ap (λ (q : TreePass). q.sizes) f.known)
+    carries = carries_on HasOut 2 share g.call g.records from v u free p p' (ap (λ (q : TreePass). q.sizes) f.known)
         (out_free g.records v.known u.known p p' (ap (λ (q : TreePass). owned_numbers q) f.known) (ap (λ (x : Purse). x.free) same)
         (ap (λ (x : Purse). x.taken) same)) (ap (λ (x : Purse). x.free.items) same)
         (λ looks. absurd (false≢true (sym k.1.1.1.0 ∙ looks))) under.carries;

@@ -28,16 +28,18 @@ use Rattle.pp_trees.specs.Edges.{TreeView, end_step}
 use Rattle.pp_trees.specs.Seeks.{found_at}
 use Rattle.pp_turns.specs.Tallies.{effected, later_of}
 use Rattle.pp_turns.specs.Turns.{Replied}
+use Rattle.pp_turns.proofs.Purses.{carries_on}
 use Rattle.pp_turns.proofs.Placing.{unplaced_on, replied_on}
 use Rattle.pp_turns.proofs.Stretches.{saw_last}
 use Rattle.pp_tree_turns.specs.Walked.{Walked, TreeTally, moved}
 use Rattle.pp_tree_turns.proofs.Ends.{four_steps, ending, ends_names, ends_walks, sought_value, ends_replied, ends_effect}
 use Rattle.pp_tree_turns.proofs.Ends.{ends_again, ends_same}
 use Rattle.pp_tree_calls.specs.declared.going.TreeGoing.{TreeGoing}
+use Rattle.pp_tree_calls.specs.Purses.{HasOut}
 use Rattle.pp_tree_calls.specs.Going.{kind_of, Begun, Tries, Goes, IsUnder}
 use Rattle.pp_tree_calls.specs.Turned.{EndedAt, found_by, HasArrived, HasEnded}
 use Rattle.pp_tree_calls.proofs.Resting.{rest_kept, same_purse}
-use Rattle.pp_tree_calls.proofs.Lasting.{silent_none, counts_on, losing_on, taken_on, carries_on, out_same}
+use Rattle.pp_tree_calls.proofs.Lasting.{silent_none, counts_on, losing_on, taken_on, out_same}
 use Rattle.pp_tree_calls.proofs.Treading.{some_named}
 
 -- what the steps of a seek's end are
@@ -136,7 +138,7 @@ module _ (z : Sizes) (share : ℕ) (g : TreeGoing) (k : ℕ) (sought : Sought) (
           ended = λ on. let h = t.taken on in ended_at e.1.place (word_of sought.edge) e.1.announced e.1.number _ e.1.read
               (slot w.known sought.word).key t.counts.tally a.memory 0 (steps_made v w) (ends_names z g.call k sought v w e).named
               h.memory h.lost h.early h.later h.is;
-          carries = carries_on share g.call g.records from v w free p p' e.0.rest.sizes
+          carries = carries_on HasOut 2 share g.call g.records from v w free p p' e.0.rest.sizes
               (out_same g.records v.known w.known p p' e.0.rest.owned same) (ap (λ (x : Purse). x.free.items) same)
               (λ looks. (landed_stepped, silent, same_purse v w e.0.rest)) u.carries;
         }

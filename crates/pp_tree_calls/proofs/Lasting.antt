@@ -21,7 +21,7 @@ use Rattle.pp_trees.specs.Edges.{TreeView}
 use Rattle.pp_turns.specs.Tallies.{losing, effected, lost_of, memory_of}
 use Rattle.pp_turns.specs.Turns.{Since, Unplaced}
 use Rattle.pp_turns.proofs.Placing.{unplaced_on, struck_later}
-use Rattle.pp_turns.proofs.Purses.{alone_on}
+use Rattle.pp_turns.proofs.Purses.{alone_on, carries_on}
 use Rattle.pp_turns.proofs.Turning.{on_by, done_by}
 use Rattle.pp_turns.proofs.Stretches.{saw_on, since_on, steps_both, own_before}
 use Rattle.pp_tree_turns.specs.Walked.{Walked, tree_reader, TreeTally, moved}
@@ -109,20 +109,6 @@ tries_on z g lost lost' k from v w t a sum none start = record {
       t.counts.since a.ran.stepped none (t.taken on);
 }
 
--- what is known of its purse stays, where no link was written or the call doesn't look only
-pub carries_on : (share : ℕ) (call : Call) (records : TwoRecords) (from v w : TreeView) (free : List ℕ) (p p' : Purse)
-    → w.known.sizes ≡ v.known.sizes → (HasOut v.known p records → HasOut w.known p' records) → p'.free.items ≡ p.free.items
-    → (is_look call ≡ true → Stepped v w × WriteNone (steps_made v w) × SamePurse v w)
-    → Carries share call records from v free p → Carries share call records from w free p'
-carries_on share call records from v w free p p' sizes out same looks k = record {
-  sizes = sizes ∙ k.sizes;
-  out = out k.out;
-  kept = let few = k.kept in let e = ap (λ (l : List ℕ). length l) same in omega arith;
-  same = λ none. same ∙ k.same none;
-  none = k.none;
-  alone = λ is. let l = looks is in alone_on from v w free p.free.items p'.free.items share (k.alone is) l.0 l.1 l.2 same;
-}
-
 -- a part of a turn after other steps, by which more is known
 pub part_after : (z : Sizes) (share : ℕ) (Known Later : TreeView → List ℕ → Type 0) (g g' : TreeGoing) (v u w : TreeView) (p' : Purse)
     (result : Turned) → Stepped v u → (HasOwn u.order → StandsThen v → StandsThen u)
@@ -169,7 +155,7 @@ missed_lost z share g s v u p p' head c start same from free k =
       tries = tries_on (map_sizes z) g (g.lost + 1) (g.lost + 1) 0 from v u k.tries a (omega arith) n.unplaced start;
       minds = subst (λ (o : Option Spot). Minds (memory_of (moved k.tries.counts.tally a.memory 0 (steps_made v u))) o) (sym head) tt;
       last = saw_on from v u k.tries.counts.since.went k.last n.stepped;
-      carries = carries_on share g.call g.records from v u free p p' c.trail.rest.sizes
+      carries = carries_on HasOut 2 share g.call g.records from v u free p p' c.trail.rest.sizes
           (out_same g.records v.known u.known p p' c.trail.rest.owned same) (ap (λ (x : Purse). x.free.items) same)
           (λ looks. (n.stepped, clears_none v u c, same_purse v u c.trail.rest)) k.carries;
     }

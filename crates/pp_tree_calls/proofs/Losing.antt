@@ -1,7 +1,6 @@
 -- A turn of a call on a tree that was lost.
-use Rattle.std.proofs.Common.{◌≡◌, ℕ, ◌+◌, ◌<◌, ◌≤◌, ◌^◌, Bool, true, false, List, length, map, refl, sym, ap, ◌∙◌, subst}
+use Rattle.std.proofs.Common.{◌≡◌, ℕ, ◌+◌, ◌<◌, ◌≤◌, ◌^◌, Bool, true, false, List, refl, sym, ap, ◌∙◌, subst}
 use Rattle.std.proofs.Common.{inl, inr, arith}
-use Rattle.std.proofs.lemmas.List.{length-map}
 use Rattle.pp_tree_turns.specs.Causes.{tree_words, tree_causes, tree_meaning}
 use Rattle.pp_calls.specs.PoolViews.{pool_view}
 use Rattle.pp_link.specs.declared.layout.Sizes.{Sizes}
@@ -9,16 +8,14 @@ use Rattle.pp_model.specs.declared.Answer.TheVariants.{Said, Lost}
 use Rattle.pp_model.specs.declared.Reply.TheVariants.{Took}
 use Rattle.pp_model.specs.declared.Turned.{Turned}
 use Rattle.pp_model.specs.declared.Turned.TheVariants.{On, Done}
-use Rattle.pp_base.specs.declared.purse.InHand.{InHand}
 use Rattle.pp_base.specs.declared.purse.Purse.{Purse}
-use Rattle.pp_base.specs.Passes.{IsAtRest, in_hand_of}
+use Rattle.pp_base.specs.Passes.{IsAtRest}
 use Rattle.pp_calls.proofs.Growing.{stepped_none}
 use Rattle.pp_shelf.specs.Runs.{map_sizes, steps_made}
 use Rattle.pp_seek.specs.declared.seek.Seek.{Seek}
 use Rattle.pp_seek.specs.Seeking.{Seeks as IsSeek}
 use Rattle.pp_trees.specs.Trees.{inf0}
 use Rattle.pp_model.specs.Calls.{key_of}
-use Rattle.pp_trees.specs.Searches.{TreePass}
 use Rattle.pp_trees.specs.Edges.{TreeView}
 use Rattle.pp_turns.proofs.Answering.{told_as}
 use Rattle.pp_turns.specs.Tallies.{losing, lost_of, memory_of}
@@ -33,10 +30,6 @@ use Rattle.pp_tree_calls.specs.Going.{upper_at, spot_of, Begun, Tries, Goes, Has
 use Rattle.pp_tree_calls.specs.Answers.{Ends}
 use Rattle.pp_tree_calls.specs.Turned.{SameGoing, Part, HasLost}
 use Rattle.pp_tree_calls.proofs.Closing.{leaf_settled}
-
--- a pass has as many chains in hand as its purse knows
-pub four_chains : (q : TreePass) (p : Purse) → map in_hand_of q.chains ≡ p.chains.items → length p.chains.items ≤ 4 → length q.chains ≤ 4
-four_chains q p is few = let e = sym (length-map q.chains in_hand_of) ∙ ap (λ (l : List InHand). length l) is in omega arith
 
 -- a call that has taken a pair says so
 pub says_took : (z : Sizes) (g : TreeGoing) (t : TreeTally) (start : ℕ) (from v : TreeView)

@@ -1,5 +1,5 @@
 -- A pass on which no call is going any more.
-use Rattle.std.proofs.Common.{◌≡◌, ℕ, zero, suc, ◌+◌, ◌<◌, ◌≤◌, Bool, true, false, List, [], ◌∷◌, length, map, get_or, refl}
+use Rattle.std.proofs.Common.{◌≡◌, ℕ, zero, ◌+◌, ◌≤◌, Bool, true, false, List, [], ◌∷◌, length, map, refl}
 use Rattle.std.proofs.Common.{sym, ap, ◌∙◌, subst, arith}
 use Rattle.std.proofs.Common.{Some, ◌++◌, ◌⊎◌, min}
 use Rattle.std.specs.Prelude.{replicate, nat_eq, ◌||◌}
@@ -8,10 +8,7 @@ use Rattle.pp_pool.specs.declared.fresh.Fresh.{Fresh}
 use Rattle.pp_pool.specs.Taken.{IsPrivate, GaveBack}
 use Rattle.pp_pool.proofs.Taking.{private_gave}
 use Rattle.pp_rule.specs.declared.views.Chain.{Chain}
-use Rattle.pp_rule.specs.declared.views.WalkSlot.{WalkSlot}
-use Rattle.pp_rule.specs.Steps.{IsUnused}
 use Rattle.pp_rule.specs.Orders.{clear_step, write_step}
-use Rattle.pp_rule.specs.Views.{blank}
 use Rattle.pp_base.specs.declared.purse.Purse.{Purse}
 use Rattle.pp_base.specs.Passes.{named_of, IsAtRest}
 use Rattle.pp_purse.specs.Steps.{is_purse_step}
@@ -27,30 +24,15 @@ use Rattle.pp_shelf.specs.Runs.{map_sizes, steps_made, MadeAtShelves}
 use Rattle.pp_shelf.specs.Shelves.{MovesFree}
 use Rattle.pp_turns.specs.Causes.{Aside}
 use Rattle.pp_turns.proofs.Aside.{aside_made}
+use Rattle.pp_turns.proofs.Resting.{rest_by, names_none}
 use Rattle.pp_turns.specs.Purses.{GaveBackOut}
 use Rattle.pp_tree_calls.specs.Purses.{HasOut, PutsAway, out_of}
 
--- No scan is under way and no frontier word is in use but for a chain, where the same is known of them.
 pub rest_kept : (q q' : TreePass) (p p' : Purse) → SameRest q q' → p'.spent ≡ p.spent → IsAtRest q p → IsAtRest q' p'
-rest_kept q q' p p' same spent r = record {
-  scan = ap (λ s. s.read) same.scan ∙ r.scan;
-  spent = spent ∙ r.spent;
-  frontier = λ j lt unused. ap (λ (f : List ℕ). get_or f j 0) same.frontier
-      ∙ r.frontier j lt (subst (λ (cs : List Chain). IsUnused j (record q { chains = cs })) same.chains unused);
-}
-
--- all names are 0 where each walk word is empty
-names_zero : (ws : List WalkSlot) (k : ℕ) → length ws ≡ k → ((j : ℕ) → j < k → (get_or ws j blank).named ≡ 0)
-    → map named_of ws ≡ replicate k zero
-names_zero [] zero long each = refl
-names_zero [] (suc k) long each = absurd (omega arith)
-names_zero (w ∷ ws) zero long each = absurd (omega arith)
-names_zero (w ∷ ws) (suc k) long each = let first : w.named ≡ 0 = each 0 (omega arith) in
-    ap (λ (n : ℕ). n ∷ map named_of ws) first
-    ∙ ap (λ (ns : List ℕ). 0 ∷ ns) (names_zero ws k (omega arith) (λ j lt. each (suc j) (omega arith)))
+rest_kept q q' p p' same spent r = rest_by q q' p p' same.scan same.frontier same.chains spent r
 
 pub walk_zero : (q : TreePass) (walk : List ℕ) → length q.walk ≡ 5 → map named_of q.walk ≡ walk → AllEmpty q → walk ≡ replicate 5 zero
-walk_zero q walk five is empty = sym is ∙ names_zero q.walk 5 five (λ j lt. (empty j lt).named)
+walk_zero q walk five is empty = names_none q walk five is (λ j lt. (empty j lt).named)
 
 plus_one : (xs : List ℕ) (n : ℕ) → length (xs ++ n ∷ []) ≡ length xs + 1
 plus_one [] n = refl

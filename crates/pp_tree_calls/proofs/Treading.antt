@@ -26,6 +26,7 @@ use Rattle.pp_trees.specs.Trees.{inf0}
 use Rattle.pp_trees.specs.Edges.{TreeView, end_step}
 use Rattle.pp_turns.specs.Tallies.{losing, memory_of}
 use Rattle.pp_turns.specs.Turns.{Waits, Unplaced, Struck}
+use Rattle.pp_turns.proofs.Purses.{carries_on}
 use Rattle.pp_turns.proofs.Placing.{unplaced_on, unplaced_made}
 use Rattle.pp_turns.proofs.Turning.{on_by, done_by}
 use Rattle.pp_turns.proofs.Stretches.{since_first, stretch_both, own_before}
@@ -35,12 +36,12 @@ use Rattle.pp_tree_turns.proofs.Seeks.{trail_names, enters_walks}
 use Rattle.pp_tree_turns.proofs.Ends.{entered_start}
 use Rattle.pp_tree_calls.specs.declared.going.TreeGoing.{TreeGoing}
 use Rattle.pp_tree_calls.specs.declared.going.Next.{Next}
-use Rattle.pp_tree_calls.specs.Purses.{TwoRecords}
+use Rattle.pp_tree_calls.specs.Purses.{TwoRecords, HasOut}
 use Rattle.pp_tree_calls.specs.Going.{kind_of, going_of, Tries, Goes}
 use Rattle.pp_tree_calls.specs.Going.{Carries, IsUnder}
 use Rattle.pp_tree_calls.specs.Turned.{Advances, Part, TreeTurned}
 use Rattle.pp_tree_calls.proofs.Resting.{rest_kept, same_purse}
-use Rattle.pp_tree_calls.proofs.Lasting.{silent_none, counts_on, tries_on, carries_on, out_same}
+use Rattle.pp_tree_calls.proofs.Lasting.{silent_none, counts_on, tries_on, out_same}
 
 -- steps with some names are some steps
 pub some_named : (n : NamedStep) (names : List NamedStep) (steps : List Step) → map name_of steps ≡ n ∷ names → 0 < length steps
@@ -73,7 +74,7 @@ trail_none v w a = silent_none a.steps v w (trail_names v w a) (λ s i. silent_k
 -- what a call has of its purse over a stretch of loads
 pub carries_trail : (share : ℕ) (call : Call) (records : TwoRecords) (from v w : TreeView) (free : List ℕ) (p p' : Purse) → Trail v w
     → p' ≡ p → Carries share call records from v free p → Carries share call records from w free p'
-carries_trail share call records from v w free p p' a same k = carries_on share call records from v w free p p' a.rest.sizes
+carries_trail share call records from v w free p p' a same k = carries_on HasOut 2 share call records from v w free p p' a.rest.sizes
     (out_same records v.known w.known p p' a.rest.owned same) (ap (λ (x : Purse). x.free.items) same)
     (λ looks. ((trail_names v w a).stepped, trail_none v w a, same_purse v w a.rest)) k
 

@@ -7,13 +7,11 @@ use Rattle.pp_model.specs.declared.Reply.TheVariants.{Took}
 use Rattle.pp_model.specs.declared.steps.Step.{Step}
 use Rattle.pp_model.specs.Calls.{key_of}
 use Rattle.pp_model.specs.Pass.{GoingView, MapSizes}
-use Rattle.pp_model.specs.MapCalls.{LeftAlone}
 use Rattle.pp_rule.specs.Orders.{log_of}
 use Rattle.pp_base.specs.declared.purse.Purse.{Purse}
 use Rattle.pp_base.specs.declared.source.Side.{Side}
 use Rattle.pp_base.specs.Passes.{IsAtRest}
 use Rattle.pp_base.specs.Sources.{side_number}
-use Rattle.pp_calls.specs.PoolViews.{pool_view}
 use Rattle.pp_shelf.specs.Runs.{map_sizes, steps_made}
 use Rattle.pp_seek.specs.declared.seek.Spot.{Spot}
 use Rattle.pp_seek.specs.Seeking.{Seeks as IsSeek}
@@ -21,8 +19,9 @@ use Rattle.pp_trees.specs.Trees.{across, inf0}
 use Rattle.pp_trees.specs.Searches.{TreePass}
 use Rattle.pp_trees.specs.Edges.{TreeView}
 use Rattle.pp_turns.specs.Answers.{is_look}
+use Rattle.pp_turns.specs.Purses as purses
 use Rattle.pp_turns.specs.Tallies.{losing, effected, lost_of, memory_of, later_of}
-use Rattle.pp_turns.specs.Turns.{Since, Waits, Unplaced, Struck, WasAbsent, Kept}
+use Rattle.pp_turns.specs.Turns.{Since, Waits, Unplaced, Struck, WasAbsent}
 use Rattle.pp_tree_turns.specs.Walked.{Walked, tree_reader, TreeTally}
 use Rattle.pp_tree_turns.specs.Causes.{flagged_leaf, ReadsValueOf, EndedElsewhere}
 use Rattle.pp_tree_turns.specs.Turning.{Minds}
@@ -31,7 +30,7 @@ use Rattle.pp_tree_turns.specs.Filling.{PublishesNext}
 use Rattle.pp_tree_calls.specs.declared.going.TreeGoing.{TreeGoing}
 use Rattle.pp_tree_calls.specs.declared.going.Next.{Next}
 use Rattle.pp_tree_calls.specs.declared.going.Next.TheVariants.{Seeks, Publishes, Flags, Tags, Splices, Over}
-use Rattle.pp_tree_calls.specs.Purses.{TwoRecords, HasOut, out_of}
+use Rattle.pp_tree_calls.specs.Purses.{TwoRecords, HasOut}
 
 -- The kind of the next turn: a turn of the seek, and those behind it, in their order.
 abbrev pub kind_of : Next → ℕ
@@ -135,14 +134,8 @@ Stands z g (Splices s side sibling) from now = (t : Tries (map_sizes z) g g.lost
 Stands z g Over from now = ⊥
 
 -- What the call has of the purse of its pass, whose free numbers at its begin were these.
-pub record Carries (share : ℕ) (call : Call) (records : TwoRecords) (from now : TreeView) (free : List ℕ) (p : Purse) : Type 0 where
-  pub sizes : now.known.sizes ≡ from.known.sizes
-  pub out : HasOut now.known p records
-  pub kept : Kept free share p.free.items (out_of records)
-  pub same : records ≡ None → p.free.items ≡ free
-  -- a call that only looks takes no record, and has left all as it was
-  pub none : is_look call ≡ true → records ≡ None
-  pub alone : is_look call ≡ true → LeftAlone (pool_view from free share) (pool_view now p.free.items share)
+abbrev pub Carries : ℕ → Call → TwoRecords → TreeView → TreeView → List ℕ → Purse → Type 0
+Carries share call records from now free p = purses.Carries HasOut 2 share call records from now free p
 
 -- The call is under way on a pass with this share: it was begun at this view, with these free numbers.
 pub record IsUnder (z : Sizes) (share : ℕ) (g : TreeGoing) (now : TreeView) (p : Purse) (from : TreeView) (free : List ℕ)

@@ -2,7 +2,7 @@ use Rattle.std.proofs.Common.{Bool, subst}
 use Rattle.pp_base.specs.Passes.{known, view}
 use Rattle.pp_tree_calls.specs.Purses.{TwoRecords, Leaves}
 use Rattle.pp_tree_calls.proofs.Closing.{ended}
-use Rattle.pp_tree_calls.proofs.Losing.{four_chains}
+use Rattle.pp_turns.proofs.Resting.{four_chains}
 use Rattle.std.proofs.Common.{◌∙◌}
 use Rattle.pp_seek.proofs.LoneSpots.{sees_of}
 use Rattle.pp_tree_calls.proofs.Alone.{leaves_bare}

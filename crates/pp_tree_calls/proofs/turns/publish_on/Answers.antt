@@ -6,7 +6,7 @@ use Rattle.pp_tree_calls.specs.declared.going.Next.TheVariants.{Over}
 use Rattle.pp_tree_calls.specs.Going.{IsUnder}
 use Rattle.pp_tree_calls.specs.Purses.{TwoRecords, TakesTwo, TakesNone, PutsAway}
 use Rattle.pp_tree_calls.specs.Turned.{TreeTurned}
-use Rattle.pp_tree_calls.proofs.Losing.{four_chains}
+use Rattle.pp_turns.proofs.Resting.{four_chains}
 use Rattle.pp_tree_calls.proofs.Publishing.{with_records}
 use Rattle.pp_tree_calls.proofs.Taken.{has_records, put_turned, full_owned, full_turned}
 use Rattle.std.proofs.Common.{ap}
