@@ -12,7 +12,7 @@ use Rattle.pp_rule.proofs.Histories.{log_begins}
 use Rattle.pp_base.specs.declared.purse.Purse.{Purse}
 use Rattle.pp_base.specs.Passes.{IsAtRest}
 use Rattle.pp_calls.specs.Steps.{Went}
-use Rattle.pp_shelf.specs.Runs.{map_sizes, steps_made}
+use Rattle.pp_shelf.specs.Runs.{map_sizes}
 use Rattle.pp_lists.specs.Lists.{ListPass}
 use Rattle.pp_lists.specs.Turns.{ListView}
 use Rattle.pp_lists.specs.Losses.{list_reader}

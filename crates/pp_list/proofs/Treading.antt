@@ -40,7 +40,7 @@ use Rattle.pp_walk.specs.declared.walk.Walk.{Walk}
 use Rattle.pp_walk.specs.declared.walk.Found.{Found}
 use Rattle.pp_walk.specs.Roles.{IsWalk, IsFound, found_in, lower_of}
 use Rattle.pp_walk.specs.Trod.{Trod, FirstSaw}
-use Rattle.pp_walk.specs.Turns.{From, Goes, GoesOn, GoesBack, Arrives, RepliedTo}
+use Rattle.pp_walk.specs.Turns.{From, Goes, GoesOn, GoesBack, Arrives}
 use Rattle.pp_walk.specs.Turns as walked
 use Rattle.pp_walk.specs.Words.{SameRest}
 use Rattle.pp_list.specs.declared.going.ListGoing.{ListGoing}

@@ -29,8 +29,8 @@ done_by On P Q f p = tt
 done_by (Done answer) P Q f p = f answer p
 
 module _ (words : PoolWords) (causes : CauseWords) (holds : MapSizes → List ℕ → List Pair → List ℕ → Type 0) (z : Sizes) (share : ℕ)
-    {W : Type 0} (IsSame : Type 0) (Under Under' : SeatView Change Placed W → List ℕ → Type 0) (Lone Lone' Bare : Type 0) (was now : GoingView)
-    (v w : SeatView Change Placed W) (free free' : List ℕ) where
+    {W : Type 0} (IsSame : Type 0) (Under Under' : SeatView Change Placed W → List ℕ → Type 0) (Lone Lone' Bare : Type 0)
+    (was now : GoingView) (v w : SeatView Change Placed W) (free free' : List ℕ) where
   abbrev meaning : Meaning
   meaning = pool_meaning words causes holds
 
@@ -85,8 +85,8 @@ module _ (words : PoolWords) (causes : CauseWords) (holds : MapSizes → List �
       };
     }
 
-    pub turn_clauses : w.known.sizes ≡ v.known.sizes → SameCall was now → TurnClauses meaning (map_sizes z) was now (pool_view v free share) left result
-        (BegunAt share Before) (BegunAt share After)
+    pub turn_clauses : w.known.sizes ≡ v.known.sizes → SameCall was now
+        → TurnClauses meaning (map_sizes z) was now (pool_view v free share) left result (BegunAt share Before) (BegunAt share After)
     turn_clauses sizes same = record {
       made = makes_turn meaning refl was now v w free free' share record {
         stepped = t.stepped;
