@@ -1,5 +1,5 @@
 -- What is known of a going call stays over a stretch of its steps.
-use Rattle.std.proofs.Common.{◌≡◌, ℕ, ◌+◌, Bool, true, false, List, ◌++◌, length, refl}
+use Rattle.std.proofs.Common.{◌≡◌, ℕ, ◌+◌, Bool, false, List, ◌++◌, refl}
 use Rattle.std.proofs.Common.{sym, ap, ◌∙◌, subst}
 use Rattle.std.proofs.Common.{Option, Some, None, arith}
 use Rattle.pp_link.specs.declared.layout.Sizes.{Sizes}
@@ -13,7 +13,7 @@ use Rattle.pp_rule.specs.Lists.{IsIn}
 use Rattle.pp_base.specs.declared.purse.Purse.{Purse}
 use Rattle.pp_base.specs.Named.{NamedStep}
 use Rattle.pp_calls.specs.PoolViews.{is_writing, pool_view}
-use Rattle.pp_calls.specs.Steps.{Stepped, HasOwn, StandsThen, WriteNone, SamePurse}
+use Rattle.pp_calls.specs.Steps.{Stepped, HasOwn, StandsThen, WriteNone}
 use Rattle.pp_calls.proofs.Growing.{kinds_none, stepped_both}
 use Rattle.pp_shelf.specs.Runs.{map_sizes, steps_made}
 use Rattle.pp_trees.specs.Searches.{TreePass}
@@ -21,7 +21,7 @@ use Rattle.pp_trees.specs.Edges.{TreeView}
 use Rattle.pp_turns.specs.Tallies.{losing, effected, lost_of, memory_of}
 use Rattle.pp_turns.specs.Turns.{Since, Unplaced}
 use Rattle.pp_turns.proofs.Placing.{unplaced_on, struck_later}
-use Rattle.pp_turns.proofs.Purses.{alone_on, carries_on}
+use Rattle.pp_turns.proofs.Purses.{carries_on}
 use Rattle.pp_turns.proofs.Turning.{on_by, done_by}
 use Rattle.pp_turns.proofs.Stretches.{saw_on, since_on, steps_both, own_before}
 use Rattle.pp_tree_turns.specs.Walked.{Walked, tree_reader, TreeTally, moved}
@@ -38,8 +38,7 @@ use Rattle.pp_seek.specs.declared.seek.Spot.{Spot}
 use Rattle.pp_tree_calls.proofs.Resting.{aside_clears, or_clear, same_purse}
 use Rattle.pp_tree_calls.proofs.Closing.{clears_none}
 use Rattle.pp_tree_calls.specs.declared.going.TreeGoing.{TreeGoing}
-use Rattle.pp_turns.specs.Answers.{is_look}
-use Rattle.pp_tree_calls.specs.Going.{Counts, IsLosing, HasTaken, Tries, Carries, IsUnder}
+use Rattle.pp_tree_calls.specs.Going.{Counts, IsLosing, HasTaken, Tries, IsUnder}
 use Rattle.pp_tree_calls.specs.Purses.{TwoRecords, HasOut}
 use Rattle.pp_tree_calls.specs.Turned.{Part, HasLost, HasMissed}
 

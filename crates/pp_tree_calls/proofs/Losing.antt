@@ -1,5 +1,5 @@
 -- A turn of a call on a tree that was lost.
-use Rattle.std.proofs.Common.{◌≡◌, ℕ, ◌+◌, ◌<◌, ◌≤◌, ◌^◌, Bool, true, false, List, refl, sym, ap, ◌∙◌, subst}
+use Rattle.std.proofs.Common.{◌≡◌, ℕ, ◌+◌, ◌<◌, ◌≤◌, ◌^◌, Bool, true, false, refl, sym, ap, ◌∙◌, subst}
 use Rattle.std.proofs.Common.{inl, inr, arith}
 use Rattle.pp_tree_turns.specs.Causes.{tree_words, tree_causes, tree_meaning}
 use Rattle.pp_calls.specs.PoolViews.{pool_view}

@@ -23,7 +23,7 @@ use Rattle.pp_base.specs.declared.purse.Purse.{Purse}
 use Rattle.pp_base.specs.Named.{NamedStep}
 use Rattle.pp_base.specs.Passes.{IsAtRest}
 use Rattle.pp_calls.specs.PoolViews.{pool_view}
-use Rattle.pp_calls.specs.Steps.{Stepped, StandsThen}
+use Rattle.pp_calls.specs.Steps.{StandsThen}
 use Rattle.pp_calls.proofs.Growing.{stepped_both, went_on}
 use Rattle.pp_shelf.specs.Runs.{map_sizes, steps_made}
 use Rattle.pp_purse.specs.Purses.{TidiesPurse}

@@ -1,9 +1,8 @@
 -- What a part of a turn makes of a call that is going on a tree.
-use Rattle.std.specs.Prelude.{◌≡◌, ◌⊎◌, ℕ, ◌+◌, ◌^◌, ◌<◌, ◌≤◌, true, false, List, ◌∷◌, ◌++◌, length, None, Option}
+use Rattle.std.specs.Prelude.{◌≡◌, ◌⊎◌, ℕ, ◌+◌, ◌^◌, ◌<◌, ◌≤◌, true, false, List, ◌∷◌, ◌++◌, None, Option}
 use Rattle.pp_link.specs.declared.layout.Sizes.{Sizes}
 use Rattle.pp_link.specs.Links.{word_of}
 use Rattle.pp_model.specs.declared.Call.{Call}
-use Rattle.pp_model.specs.declared.Reply.{Reply}
 use Rattle.pp_model.specs.declared.Turned.{Turned}
 use Rattle.pp_model.specs.declared.steps.Step.{Step}
 use Rattle.pp_model.specs.Calls.{key_of, changes, reply_at}
@@ -25,7 +24,7 @@ use Rattle.pp_trees.specs.Edges.{TreeView, end_step}
 use Rattle.pp_trees.specs.Seeks.{found_at}
 use Rattle.pp_turns.specs.Tallies.{memory_of, later_of}
 use Rattle.pp_turns.specs.Turned.{HasTurned}
-use Rattle.pp_turns.specs.Turns.{Unplaced, Struck, Replied, SawLast}
+use Rattle.pp_turns.specs.Turns.{Unplaced, Replied, SawLast}
 use Rattle.pp_tree_turns.specs.Turning.{Minds, Walks}
 use Rattle.pp_tree_turns.specs.Walked.{TreeTally}
 use Rattle.pp_tree_turns.specs.Causes.{tree_meaning}
