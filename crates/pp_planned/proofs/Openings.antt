@@ -268,3 +268,28 @@ module _ {M P G N W : Type 0} (belongs : P → Type 0) (idle : P → Type 0) (un
   pub first_go : AllMayGoOn belongs idle under_way learnable view going_view this note xs (opened_at (map view ps) lists).callers
   first_go = all_go belongs idle under_way learnable view going_view this note ps lists xs
       (views_length (λ (v : Vec Call Global). v.items) given ∙ lengths) many_are made_at
+
+-- the passes start as those whose views they have
+module _ {M P G N W : Type 0} (belongs : P → Type 0) (idle : P → Type 0) (under_way : P → G → PassView → Type 0)
+    (learnable : P → N → Type 0) (view : P → PassView) (going_view : P → G → GoingView) (this : M) (note : N)
+    (before ps : List P) (given : List (Vec Call Global)) (xs : List (Caller M P G N W)) (lengths : length given ≡ length before)
+    (same : map view ps ≡ map view before)
+    (passes_are : map (λ x. x.pass) xs ≡ map Some ps) (lists_are : map (λ x. x.calls) xs ≡ given)
+    (idle_all : All (λ x. (x.call ≡ None) × (x.next ≡ 0) × (x.mark ≡ 0)) xs) (empty_all : All (λ x. x.answers.items ≡ []) xs)
+    (room_all : All (λ x. length x.calls.items ≤ vec_capacity x.answers) xs)
+    (opened : AtEach ps (λ c p. belongs p × idle p × IsOpened c (view p))) (learns : AtEach ps (λ c p. learnable p note))
+    (keys : KeysFit (map (λ v. v.items) given)) (room : HaveRoom (map view before) (map (λ v. v.items) given)) where
+  abbrev Start : List PassView → Type 0
+  Start views = AllSeen belongs idle under_way learnable view going_view this xs (opened_at views (map (λ v. v.items) given)).callers
+      × AllMayGoOn belongs idle under_way learnable view going_view this note xs (opened_at views (map (λ v. v.items) given)).callers
+
+  pub starts_so : Start (map view before)
+  starts_so =
+      let many : length given ≡ length ps = lengths ∙ (sym (views_length view before) ∙ (ap length (sym same) ∙ views_length view ps)) in
+      let rooms = subst (λ (vs : List PassView). HaveRoom vs (map (λ v. v.items) given)) (sym same) room in
+      subst Start same (
+        first_seen belongs idle under_way learnable view going_view this note ps given xs many passes_are lists_are idle_all
+            empty_all room_all opened learns keys rooms,
+        first_go belongs idle under_way learnable view going_view this note ps given xs many passes_are lists_are idle_all
+            empty_all room_all opened learns keys rooms,
+      )

@@ -2,13 +2,15 @@
 //! read what came of it from `Planned`.
 #![tactic(auto)]
 
-ghost use Rattle.std.specs.Prelude.{◌≡◌, ◌≤◌, ◌<◌, ◌⊎◌, map, length, IfOk, IfErr};
+ghost use Rattle.std.specs.Prelude.{◌≡◌, ◌≤◌, ◌<◌, ◌⊎◌, ℕ, List, map, length, IfOk, IfErr};
 ghost use Rattle.pp_model.specs.Lists.{AtEach};
 ghost use Rattle.pp_model.specs.History.{contents_of};
 ghost use Rattle.pp_trace.specs.TraceLists.{KeysFit};
 ghost use Rattle.pp_running.specs.Run.{IsRunOf, IsOpened};
 ghost use Rattle.pp_running.specs.Jobs.{HaveRoom, views_of};
-ghost use Rattle.pp_planned.specs.Planned.{IsPlanned, IsMarked, IsRunnersFault};
+ghost use Rattle.pp_schedule.specs.Plays.{Moment, Plays};
+ghost use Rattle.pp_schedule.specs.Seats.{AllSeen, calls_of};
+ghost use Rattle.pp_planned.specs.Planned.{IsPlanned, IsMarked, IsRunnersFault, opened_at};
 
 mod callers;
 
@@ -16,6 +18,7 @@ use callers::{Parts, callers_of, first_note, parts_of};
 use pp_model::{Call, MapCalls};
 use pp_running::Ran;
 use pp_schedule::Runner;
+use pp_schedule::caller::Caller;
 use pp_schedule::playing::play;
 use std::alloc::{AllocGlobal, Global};
 use std::random::RandomSource;
@@ -83,14 +86,7 @@ where
     ensures cause { IfErr result (IsRunnersFault (X.faults runner.old) (X.faults runner.new)) }
     ensures kept { IfOk result (λ _. X.faults runner.new ≡ X.faults runner.old) }
 {
-    let mut passes = passes;
-    let note = first_note(&chosen, &mut passes);
-    let Ok(callers) = callers_of(alloc, passes, lists) else {
-        return Err(PlannedFault::NoMemory);
-    };
-    let Ok(callers) = play(rt, alloc, runner, &chosen, races, plan, callers, note) else {
-        return Err(PlannedFault::Failed);
-    };
+    let callers = play_from(rt, alloc, runner, &chosen, passes, lists, races, plan)?;
     let Ok(parts) = parts_of(alloc, callers) else {
         return Err(PlannedFault::NoMemory);
     };
@@ -108,4 +104,46 @@ where
         }),
         Err(_) => Err(PlannedFault::NoMemory),
     }
+}
+
+// Callers of these passes and lists, once they have made all their turns by the plan.
+fn play_from<'a, R: Wait + RandomSource + AllocGlobal, X: Runner, M: MapCalls>(
+    rt: &R,
+    alloc: Global,
+    runner: &mut X,
+    chosen: &'a M,
+    passes: Vec<M::Pass>,
+    lists: Vec<Vec<Call>>,
+    races: u64,
+    plan: Vec<u32>,
+) -> Result<Vec<Caller<'a, M>>, PlannedFault>
+where
+    M::Pass: Drop,
+    M::Going: Drop,
+    M::Note: Drop,
+    requires passes { AtEach passes.items (λ c pass. M.Belongs chosen.now pass × M.Idle pass × IsOpened c (M.pass_view pass)) }
+    requires some { 1 ≤ length passes.items }
+    requires lists { length lists.items ≡ length passes.items }
+    requires keys { KeysFit (map (λ v. v.items) lists.items) }
+    requires room { HaveRoom (views_of M.pass_view passes.items) (map (λ v. v.items) lists.items) }
+    requires races { 1 ≤ races }
+    requires plan { AtEach plan.items (λ k c. c < length passes.items) }
+    ensures played { IfOk result (λ callers. (turns : List ℕ) × (last : Moment)
+        × Plays M.meaning (M.sizes chosen.now) races plan.items (opened_at (views_of M.pass_view passes.items)
+        (map (λ v. v.items) lists.items)) turns last
+        × AllSeen (M.Belongs chosen.now) M.Idle (M.UnderWay chosen.now) (M.Learnable chosen.now) M.pass_view M.going_view chosen.now
+        callers.items last.callers) }
+    ensures calls { IfOk result (λ callers. calls_of callers.items ≡ lists.items) }
+    ensures cause { IfErr result (IsRunnersFault (X.faults runner.old) (X.faults runner.new)) }
+    ensures kept { IfOk result (λ _. X.faults runner.new ≡ X.faults runner.old) }
+{
+    let mut passes = passes;
+    let note = first_note(chosen, &mut passes);
+    let Ok(callers) = callers_of(alloc, passes, lists) else {
+        return Err(PlannedFault::NoMemory);
+    };
+    let Ok(callers) = play(rt, alloc, runner, chosen, races, plan, callers, note) else {
+        return Err(PlannedFault::Failed);
+    };
+    Ok(callers)
 }
