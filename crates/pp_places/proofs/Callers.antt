@@ -1,9 +1,9 @@
 -- What a closed run says of one of its callers.
-use Rattle.std.proofs.Common.{◌≡◌, ℕ, ◌+◌, List, [], ◌∷◌, ◌++◌, length, map, take, Some, sym, ap, ◌∙◌, arith}
+use Rattle.std.proofs.Common.{◌≡◌, ℕ, ◌+◌, ◌<◌, List, [], ◌∷◌, ◌++◌, length, map, take, Some, sym, ap, ◌∙◌, arith}
 use Rattle.std.proofs.Common.{Vec, Global}
-use Rattle.std.specs.Prelude.{slice_get}
+use Rattle.std.specs.Prelude.{slice_get, get_or}
 use Rattle.std.proofs.lemmas.List.{length-map, map-append, take_more}
-use Rattle.std.proofs.lemmas.Option.{slice_get_within, get_or_from_slice_get}
+use Rattle.std.proofs.lemmas.Option.{slice_get_read, slice_get_within, get_or_from_slice_get}
 use Rattle.pp_model.specs.declared.Call.{Call}
 use Rattle.pp_model.specs.declared.Answer.{Answer}
 use Rattle.pp_model.specs.declared.Placed.{Placed}
@@ -76,3 +76,35 @@ lists_more out list callers k r at had is =
     map-append (λ v. v.items) out (list ∷ []) ∙ (ap (λ l. l ++ list.items ∷ []) had
     ∙ (ap (λ m. map (λ x. x.mine) (take k callers) ++ m ∷ []) is
     ∙ sym (ap (map (λ x. x.mine)) next ∙ map-append (λ x. x.mine) (take k callers) (r ∷ []))))
+
+-- what stands at one caller's place
+pub record AtCaller (lists : List (Vec Call Global)) (answers : List (Vec Answer Global)) (marks : List (Vec ℕ Global)) (k : ℕ)
+    (calls : Vec Call Global) (got : Vec Answer Global) (own : Vec ℕ Global) : Type 0 where
+  pub calls_at : slice_get (map (λ v. v.items) lists) k ≡ Some calls.items
+  pub got_at : slice_get (map (λ v. v.items) answers) k ≡ Some got.items
+  pub own_at : slice_get (map (λ v. v.items) marks) k ≡ Some own.items
+  pub many_got : length got.items ≡ length calls.items
+  pub many_own : length own.items ≡ length calls.items
+
+read_at : {A : Type 0} (rows : List (Vec A Global)) (n k : ℕ) (row : Vec A Global) → length (map (λ v. v.items) rows) ≡ n → k < n
+    → row ≡ get_or rows k row → slice_get (map (λ v. v.items) rows) k ≡ Some row.items
+read_at rows n k row many low is = at_mapped (λ v. v.items) rows k row
+    (slice_get_read rows n k row (sym many ∙ length-map rows (λ v. v.items)) low is)
+
+pub at_caller : (lists : List (Vec Call Global)) (answers : List (Vec Answer Global)) (marks : List (Vec ℕ Global))
+    → AreAsLong (map (λ v. v.items) lists) (map (λ v. v.items) answers) (map (λ v. v.items) marks)
+    → (k : ℕ) (calls : Vec Call Global) (got : Vec Answer Global) (own : Vec ℕ Global) → k < length lists
+    → calls ≡ get_or lists k calls → got ≡ get_or answers k got → own ≡ get_or marks k own
+    → AtCaller lists answers marks k calls got own
+at_caller lists answers marks l k calls got own low is_calls is_got is_own =
+    let many = length-map lists (λ v. v.items) in
+    let calls_at = read_at lists (length lists) k calls many low is_calls in
+    let got_at = read_at answers (length lists) k got (l.many_answers ∙ many) low is_got in
+    let own_at = read_at marks (length lists) k own (l.many_marks ∙ many) low is_own in
+    record {
+      calls_at = calls_at;
+      got_at = got_at;
+      own_at = own_at;
+      many_got = l.each_answers k calls.items got.items calls_at got_at;
+      many_own = l.each_marks k calls.items own.items calls_at own_at;
+    }
