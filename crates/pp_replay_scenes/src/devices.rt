@@ -1,18 +1,14 @@
 //! Devices that fail, long traces, and std's own reader and writer.
 
-use crate::replaying::{Devices, SOUND, replayed, words_of};
+use crate::replaying::{SMALL, SMALL_OUT, replayed};
 use pp_outside::{MemSink, NoGate, StdSink, StdSource};
+use pp_program_scenes::{Devices, SOUND, words_of};
 use pp_replay::replay;
 use std::alloc::{AllocGlobal, Global};
 use std::collections::VecDeque;
 use std::fs;
 use std::test::Fail;
 use std::thread::Threads;
-
-const SMALL: &[u8] = b"0 insert 7 70\n0 get 7\n0 insert 7 71\n0 remove 7\n0 get 7\n";
-
-const SMALL_OUT: &[u8] =
-    b"0 1 added\n0 2 value 70\n0 3 held 70\n0 4 took 70\n0 5 absent\ncontents 0\n";
 
 /// The words that choose each map, for one caller.
 const MAPS: [&str; 4] = [

@@ -1,4 +1,4 @@
-//! Whole replays, from words and bytes to statuses, bytes and lines. This crate has tests alone.
+//! Whole replays, from words and bytes to statuses, bytes and lines. But for the replays that tests begin with, it has tests alone.
 #![tactic(auto)]
 
 #[cfg(test)]
@@ -7,7 +7,4 @@ mod crossing;
 mod devices;
 #[cfg(test)]
 mod long;
-#[cfg(test)]
-mod replaying;
-#[cfg(test)]
-mod rows;
+pub mod replaying;

@@ -1,7 +1,8 @@
 //! Long traces over callers that share their keys, and made traces run again.
 
-use crate::replaying::{SOUND, replayed};
+use crate::replaying::replayed;
 use pp_outside::NoGate;
+use pp_program_scenes::SOUND;
 use std::alloc::Global;
 use std::test::Fail;
 

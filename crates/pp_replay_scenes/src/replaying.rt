@@ -1,51 +1,23 @@
 //! Replays with a source and sinks in memory.
 
-use pp_outside::{Gate, MemSink, MemSource};
+use pp_outside::Gate;
+use pp_program_scenes::{Devices, Shown, Stage};
 use pp_replay::replay;
-use std::alloc::Global;
-use std::test::Fail;
+use std::alloc::{AllocError, Global};
 use std::thread::Threads;
 
-/// The most bytes that the source gives at a read, that the sink takes at a write and that the sink for the line about an error
-/// takes at a write, and which of these fail.
-#[derive(Clone, Copy)]
-pub struct Devices<'a> {
-    pub read: usize,
-    pub failing_reads: &'a [u64],
-    pub write: usize,
-    pub failing_writes: &'a [u64],
-    pub error: usize,
-    pub failing_errors: &'a [u64],
-}
+/// A small trace of one caller.
+pub const SMALL: &[u8] = b"0 insert 7 70\n0 get 7\n0 insert 7 71\n0 remove 7\n0 get 7\n";
 
-/// Devices that never fail.
-pub const SOUND: Devices<'static> = Devices {
-    read: 100_000,
-    failing_reads: &[],
-    write: 100_000,
-    failing_writes: &[],
-    error: 7,
-    failing_errors: &[],
-};
+/// What a replay of the small trace prints.
+pub const SMALL_OUT: &[u8] =
+    b"0 1 added\n0 2 value 70\n0 3 held 70\n0 4 took 70\n0 5 absent\ncontents 0\n";
 
-/// What a replay showed.
-#[derive(Drop)]
-pub struct Shown {
-    pub status: u8,
-    pub sink: Vec<u8>,
-    pub errs: Vec<u8>,
-}
-
-/// The words of a line.
-pub fn words_of(alloc: Global, line: &str) -> Result<Vec<String>, Fail> {
-    let mut words = Vec::new(alloc);
-    for word in line.split_ascii_whitespace() {
-        words.push(String::from_str(alloc, word)?)?;
-    }
-    Ok(words)
-}
-
-/// A replay with sources and sinks in memory.
+/// Replays a trace by the words of a line, on these devices in memory.
+///
+/// # Errors
+///
+/// There was no memory for the devices, or for what they showed.
 pub fn replayed<R: Threads + Sync, G: Gate + Sync>(
     rt: &R,
     alloc: Global,
@@ -53,18 +25,16 @@ pub fn replayed<R: Threads + Sync, G: Gate + Sync>(
     trace: &[u8],
     devices: &Devices,
     gate: &G,
-) -> Result<Shown, Fail> {
-    let words = words_of(alloc, line)?;
-    let reads = devices.failing_reads.to_vec(alloc)?;
-    let mut source = MemSource::new(trace.to_vec(alloc)?, devices.read.max(1), reads);
-    let writes = devices.failing_writes.to_vec(alloc)?;
-    let mut sink = MemSink::new(alloc, devices.write.max(1), writes);
-    let errors = devices.failing_errors.to_vec(alloc)?;
-    let mut errs = MemSink::new(alloc, devices.error.max(1), errors);
-    let ending = replay(rt, alloc, &words, &mut source, &mut sink, &mut errs, gate);
-    Ok(Shown {
-        status: ending.status,
-        sink: sink.written().to_vec(alloc)?,
-        errs: errs.written().to_vec(alloc)?,
-    })
+) -> Result<Shown, AllocError> {
+    let mut stage = Stage::new(alloc, line, trace, devices)?;
+    let ending = replay(
+        rt,
+        alloc,
+        &stage.words,
+        &mut stage.source,
+        &mut stage.sink,
+        &mut stage.errs,
+        gate,
+    );
+    stage.shown(alloc, ending.status)
 }

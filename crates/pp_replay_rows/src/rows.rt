@@ -1,13 +1,9 @@
 //! Replays as worked by hand.
 
-use crate::replaying::{SOUND, replayed};
 use pp_outside::NoGate;
+use pp_program_scenes::SOUND;
+use pp_replay_scenes::replaying::{SMALL, SMALL_OUT, replayed};
 use std::test::Fail;
-
-const SMALL: &[u8] = b"0 insert 7 70\n0 get 7\n0 insert 7 71\n0 remove 7\n0 get 7\n";
-
-const SMALL_OUT: &[u8] =
-    b"0 1 added\n0 2 value 70\n0 3 held 70\n0 4 took 70\n0 5 absent\ncontents 0\n";
 
 const NINE: &[u8] =
     b"0 insert 1 1\n0 insert 2 2\n0 insert 3 3\n0 insert 4 4\n0 insert 5 5\n0 insert 6 6\n0 insert 7 7\n0 insert 8 8\n0 insert 9 9\n";

@@ -1,0 +1,5 @@
+//! Replays as worked by hand, in tables. This crate has tests alone.
+#![tactic(auto)]
+
+#[cfg(test)]
+mod rows;
