@@ -90,6 +90,3 @@ impl Gate for NoGate {
 
     fn after(&self, _caller: u32, _number: u32) {}
 }
-
-#[cfg(test)]
-mod tests;

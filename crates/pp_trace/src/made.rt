@@ -85,6 +85,3 @@ impl Trace {
         }
     }
 }
-
-#[cfg(test)]
-mod tests;

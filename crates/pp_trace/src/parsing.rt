@@ -203,6 +203,3 @@ pub fn parse(alloc: Global, bytes: &[u8], callers: u32) -> Result<Trace, TraceFa
     }
     Ok(trace)
 }
-
-#[cfg(test)]
-mod tests;

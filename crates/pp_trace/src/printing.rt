@@ -210,6 +210,3 @@ impl Printer {
         }
     }
 }
-
-#[cfg(test)]
-mod tests;

@@ -3,8 +3,6 @@
 #![tactic(auto)]
 
 mod command;
-#[cfg(test)]
-mod tests;
 mod values;
 pub mod words;
 

@@ -1,6 +1,7 @@
 //! Traces with their calls, or with their first bad line and its cause.
 
-use super::*;
+use pp_model::Call;
+use pp_trace::{Number, Span, TraceFault, Why, next_field, next_line, parse, read_number};
 use std::test::Fail;
 
 #[test]

@@ -1,15 +1,17 @@
-//! What no contract says: how reads and writes go in pieces, the room that a read is offered, and one run of
-//! std's own reader and writer.
+//! How reads and writes go in pieces, the room that a read is offered, and one run of std's own reader and writer.
 
 ghost use Rattle.std.specs.Prelude.{◌≡◌, ℕ, ◌≤◌, None};
 
-use super::*;
+use pp_outside::{
+    Failed, Gate, MemSink, MemSource, NoGate, ReadFault, Sink, Source, StdSink, StdSource,
+    SureSink, SureSource, read_all,
+};
 use std::collections::VecDeque;
 use std::fs;
 use std::test::Fail;
 
-#[derive(Drop)]
 /// A source that gives a byte a read and notes the least room that it was offered.
+#[derive(Drop)]
 struct Watched {
     left: u8,
     least: usize,

@@ -1,7 +1,20 @@
 //! The generator's first states and calls.
 
-use super::*;
+ghost use Rattle.std.specs.Prelude.{◌≡◌, ◌^◌, ◌<◌};
+ghost use Rattle.pp_trace.specs.MadeTrace.{draw};
+
+use pp_model::Call;
+use pp_trace::{Make, Trace};
 use std::test::Fail;
+
+/// The next state of the generator, by its definition.
+fn draw_next(state: u64) -> u64
+    requires { state < 2 ^ 31 }
+    ensures value { result ≡ draw state }
+    ensures range { result < 2 ^ 31 }
+{
+    (state * 1103515245 + 12345) % (1 << 31)
+}
 
 #[test]
 fn the_first_calls_of_seed_one(rt: HostRuntime) -> Result<(), Fail> {

@@ -2,10 +2,10 @@
 
 ghost use Rattle.std.specs.Prelude.{◌≡◌, ◌≤◌, false};
 
-use super::*;
-use pp_model::Reply;
-use pp_outside::MemSink;
-use std::alloc::AllocError;
+use pp_model::{Answer, Pair, Reply};
+use pp_outside::{Failed, MemSink};
+use pp_trace::{Counts, Printer};
+use std::alloc::{AllocError, Global};
 use std::process::Abort;
 use std::test::Fail;
 

@@ -1,6 +1,8 @@
-use crate::words::settings;
-use crate::{Kind, Settings, WordsFault};
+//! Settings, from the words of a line.
+
 use pp_trace::Make;
+use pp_words::words::settings;
+use pp_words::{Kind, Settings, WordsFault};
 use std::alloc::{AllocError, Global};
 use std::test::Fail;
 
