@@ -55,6 +55,3 @@ pub fn check(alloc: Global, bytes: &[u8]) -> Result<Verdict, NoMemory>
         Err(CertificateFault::NoMemory) => Err(NoMemory),
     }
 }
-
-#[cfg(test)]
-mod tests;

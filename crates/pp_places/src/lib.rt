@@ -50,6 +50,3 @@ pub fn history_of(
     let lists = lists_of(alloc, &log, &index, lists, answers, marks)?;
     Ok(History { log, lists })
 }
-
-#[cfg(test)]
-mod tests;

@@ -2,8 +2,10 @@
 
 ghost use Rattle.std.specs.Prelude.{◌≤◌, length};
 
-use super::*;
-use pp_outside::{MemSink, MemSource};
+use pp_check::{Verdict, check, judge};
+use pp_model::NoMemory;
+use pp_program_scenes::{Devices, SOUND, Shown, Stage};
+use std::alloc::Global;
 use std::test::Fail;
 
 const WORKED: &[u8] =
@@ -297,33 +299,11 @@ fn a_text_that_is_cut_off_is_told_by_its_line(rt: HostRuntime) -> Result<(), Fai
     Ok(())
 }
 
-/// What a judgement showed.
-#[derive(Drop)]
-struct Shown {
-    status: u8,
-    sink: Vec<u8>,
-    errs: Vec<u8>,
-}
-
-/// Judges a text: the read and the write of these numbers, from 1, fail, and each write takes so many bytes.
-fn judged(
-    alloc: Global,
-    text: Vec<u8>,
-    failing_read: u64,
-    most: usize,
-    failing_write: u64,
-) -> Result<Shown, Fail> {
-    let reads = [failing_read].to_vec(alloc)?;
-    let mut source = MemSource::new(text, 100_000, reads);
-    let writes = [failing_write].to_vec(alloc)?;
-    let mut sink = MemSink::new(alloc, most.max(1), writes);
-    let mut errs = MemSink::new(alloc, 7, Vec::new(alloc));
-    let judged = judge(alloc, &mut source, &mut sink, &mut errs);
-    Ok(Shown {
-        status: judged.status,
-        sink: sink.written().to_vec(alloc)?,
-        errs: errs.written().to_vec(alloc)?,
-    })
+/// Judges a text with a source and sinks in memory.
+fn judged(alloc: Global, text: &[u8], devices: &Devices) -> Result<Shown, Fail> {
+    let mut stage = Stage::new(alloc, "", text, devices)?;
+    let judged = judge(alloc, &mut stage.source, &mut stage.sink, &mut stage.errs);
+    Ok(stage.shown(alloc, judged.status)?)
 }
 
 #[test]
@@ -339,7 +319,11 @@ fn judgements_end_as_worked_by_hand(rt: HostRuntime) -> Result<(), Fail> {
     for (number, (old, new, status, sink)) in rows.iter().enumerate() {
         for most in [1, 3, 100] {
             let text = changed(rt.alloc(), WORKED, old, new)?;
-            let shown = judged(rt.alloc(), text, 0, most, 0)?;
+            let devices = Devices {
+                write: most,
+                ..SOUND
+            };
+            let shown = judged(rt.alloc(), &text, &devices)?;
             assert_eq!(rt; shown.status, *status, "row {number}");
             assert_eq!(rt; shown.sink.as_slice(), *sink, "row {number}");
             assert_eq!(rt; shown.errs.len(), 0, "row {number}");
@@ -348,17 +332,37 @@ fn judgements_end_as_worked_by_hand(rt: HostRuntime) -> Result<(), Fail> {
     Ok(())
 }
 
+const FIRST_READ: Devices<'static> = Devices {
+    failing_reads: &[1],
+    ..SOUND
+};
+
+const SECOND_READ: Devices<'static> = Devices {
+    failing_reads: &[2],
+    ..SOUND
+};
+
+const FIRST_WRITE: Devices<'static> = Devices {
+    failing_writes: &[1],
+    ..SOUND
+};
+
+const SECOND_WRITE: Devices<'static> = Devices {
+    write: 2,
+    failing_writes: &[2],
+    ..SOUND
+};
+
 #[test]
 fn a_read_and_a_write_that_fail_are_told(rt: HostRuntime) -> Result<(), Fail> {
-    let rows: [(u64, usize, u64, u8, &[u8], &[u8]); 4] = [
-        (1, 100, 0, 3, b"", b"read: failed\n"),
-        (2, 100, 0, 3, b"", b"read: failed\n"),
-        (0, 100, 1, 4, b"", b"write: failed\n"),
-        (0, 2, 2, 4, b"ye", b"write: failed\n"),
+    let rows: [(Devices<'static>, u8, &[u8], &[u8]); 4] = [
+        (FIRST_READ, 3, b"", b"read: failed\n"),
+        (SECOND_READ, 3, b"", b"read: failed\n"),
+        (FIRST_WRITE, 4, b"", b"write: failed\n"),
+        (SECOND_WRITE, 4, b"ye", b"write: failed\n"),
     ];
-    for (number, (read, most, write, status, sink, errs)) in rows.iter().enumerate() {
-        let text = WORKED.to_vec(rt.alloc())?;
-        let shown = judged(rt.alloc(), text, *read, *most, *write)?;
+    for (number, (devices, status, sink, errs)) in rows.iter().enumerate() {
+        let shown = judged(rt.alloc(), WORKED, devices)?;
         assert_eq!(rt; shown.status, *status, "row {number}");
         assert_eq!(rt; shown.sink.as_slice(), *sink, "row {number}");
         assert_eq!(rt; shown.errs.as_slice(), *errs, "row {number}");
@@ -384,11 +388,11 @@ fn long_certificate(alloc: Global, lines: u32) -> Result<Vec<u8>, Fail> {
 fn long_certificates_are_read_up_to_the_limit(rt: HostRuntime) -> Result<(), Fail> {
     let mut text = long_certificate(rt.alloc(), 762_579)?;
     assert_eq!(rt; text.len(), 16_777_216);
-    let shown = judged(rt.alloc(), text.clone()?, 0, 100, 0)?;
+    let shown = judged(rt.alloc(), &text, &SOUND)?;
     assert_eq!(rt; shown.status, 0);
     assert_eq!(rt; shown.sink.as_slice(), b"yes\n".as_slice());
     text.push(b'\n')?;
-    let shown = judged(rt.alloc(), text, 0, 100, 0)?;
+    let shown = judged(rt.alloc(), &text, &SOUND)?;
     assert_eq!(rt; shown.status, 7);
     assert_eq!(rt; shown.sink.len(), 0);
     assert_eq!(rt;

@@ -1,8 +1,8 @@
 //! A certificate's text, as worked by hand.
 
-use crate::certificate_of;
 use pp_check::{Verdict, check};
 use pp_model::{Call, Change, Placed, Reply};
+use pp_places::certificate_of;
 use std::test::Fail;
 
 const TEXT: &[u8] = b"certificate 1\nchange 1 1 insert 40 4\nchange 1 2 cut 40 4\n\
