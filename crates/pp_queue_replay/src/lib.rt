@@ -50,6 +50,3 @@ pub fn queue_replay<R: Threads + Sync, S: Source, K: Sink, E: Sink, G: Gate + Sy
     tell(errs, attempt.way);
     QueueEnding::of(attempt)
 }
-
-#[cfg(test)]
-mod tests;

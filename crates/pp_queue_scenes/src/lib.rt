@@ -1,6 +1,9 @@
-//! Worked scenes over a queue: what no single clause says, run once each. This crate has tests alone.
+//! Worked scenes over a queue, and whole replays of a queue's traces: what no single clause says, run once each. This crate has
+//! tests alone.
 #![tactic(auto)]
 
+#[cfg(test)]
+mod replays;
 #[cfg(test)]
 mod staging;
 #[cfg(test)]

@@ -1,49 +1,39 @@
 //! Replays of a queue from words and bytes to statuses, bytes and lines, as worked by hand.
 
-ghost use Rattle.std.specs.Prelude.{◌<◌};
-
-use super::*;
-use pp_outside::{MemSink, MemSource, NoGate};
-use std::sync::atomic::{AtomicU64, Ordering};
+use pp_outside::{Gate, NoGate};
+use pp_program_scenes::{Crossing, Devices, SOUND, Shown, Stage};
+use pp_queue_replay::queue_replay;
+use std::alloc::Global;
 use std::test::Fail;
+use std::thread::Threads;
 
-/// What a replay showed.
-#[derive(Drop)]
-struct Shown {
-    status: u8,
-    sink: Vec<u8>,
-    errs: Vec<u8>,
-}
+/// Devices that move sixteen bytes at most.
+const SMALL: Devices<'static> = Devices {
+    read: 16,
+    write: 16,
+    ..SOUND
+};
 
-fn words_of(alloc: Global, line: &str) -> Result<Vec<String>, Fail> {
-    let mut words = Vec::new(alloc);
-    for word in line.split_ascii_whitespace() {
-        words.push(String::from_str(alloc, word)?)?;
-    }
-    Ok(words)
-}
-
-/// Replays a trace; the reads and the writes of these numbers fail.
+/// Replays a trace with a source and sinks in memory.
 fn replayed<R: Threads + Sync, G: Gate + Sync>(
     rt: &R,
     alloc: Global,
     line: &str,
     trace: &[u8],
-    failing: (&[u64], &[u64]),
+    devices: &Devices,
     gate: &G,
 ) -> Result<Shown, Fail> {
-    let words = words_of(alloc, line)?;
-    let reads = failing.0.to_vec(alloc)?;
-    let mut source = MemSource::new(trace.to_vec(alloc)?, 16, reads);
-    let writes = failing.1.to_vec(alloc)?;
-    let mut sink = MemSink::new(alloc, 16, writes);
-    let mut errs = MemSink::new(alloc, 7, Vec::new(alloc));
-    let ending = queue_replay(rt, alloc, &words, &mut source, &mut sink, &mut errs, gate);
-    Ok(Shown {
-        status: ending.status,
-        sink: sink.written().to_vec(alloc)?,
-        errs: errs.written().to_vec(alloc)?,
-    })
+    let mut stage = Stage::new(alloc, line, trace, devices)?;
+    let ending = queue_replay(
+        rt,
+        alloc,
+        &stage.words,
+        &mut stage.source,
+        &mut stage.sink,
+        &mut stage.errs,
+        gate,
+    );
+    Ok(stage.shown(alloc, ending.status)?)
 }
 
 const ONE: &[u8] = b"0 take\n0 put 5\n0 put 6\n0 take\n0 take\n0 take\n";
@@ -88,7 +78,7 @@ fn replays_end_as_worked_by_hand(rt: HostRuntime) -> Result<(), Fail> {
         ("--", b"", 1, b"", b"words: refused\n"),
     ];
     for (words, trace, status, sink, errs) in rows {
-        let got = replayed(&rt, rt.alloc(), words, trace, (&[], &[]), &NoGate)?;
+        let got = replayed(&rt, rt.alloc(), words, trace, &SMALL, &NoGate)?;
         assert_eq!(rt; got.status, status, "{words}");
         assert_eq!(rt; got.sink.as_slice(), sink, "{words}");
         assert_eq!(rt; got.errs.as_slice(), errs, "{words}");
@@ -99,11 +89,20 @@ fn replays_end_as_worked_by_hand(rt: HostRuntime) -> Result<(), Fail> {
 #[test]
 fn devices_fail_at_each_call_in_turn(rt: HostRuntime) -> Result<(), Fail> {
     for number in 1u64..4 {
-        let got = replayed(&rt, rt.alloc(), "", ONE, (&[number], &[]), &NoGate)?;
+        let failing = [number];
+        let unread = Devices {
+            failing_reads: &failing,
+            ..SMALL
+        };
+        let got = replayed(&rt, rt.alloc(), "", ONE, &unread, &NoGate)?;
         assert_eq!(rt; got.status, 3, "read {number}");
         assert_eq!(rt; got.sink.len(), 0);
         assert_eq!(rt; got.errs.as_slice(), b"read: failed\n".as_slice());
-        let got = replayed(&rt, rt.alloc(), "", ONE, (&[], &[number]), &NoGate)?;
+        let unwritten = Devices {
+            failing_writes: &failing,
+            ..SMALL
+        };
+        let got = replayed(&rt, rt.alloc(), "", ONE, &unwritten, &NoGate)?;
         assert_eq!(rt; got.status, 4, "write {number}");
         assert!(rt; ONE_OUT.starts_with(&got.sink));
         assert_eq!(rt; got.errs.as_slice(), b"write: failed\n".as_slice());
@@ -111,56 +110,16 @@ fn devices_fail_at_each_call_in_turn(rt: HostRuntime) -> Result<(), Fail> {
     Ok(())
 }
 
-/// A gate at which the first call of caller 0 waits for the first one of caller 1, and the second one of caller 1 for the first one
-/// of caller 0. It counts the waits that end by their limit.
-#[derive(Drop)]
-struct Crossing {
-    answered: [AtomicU64; 2],
-    overdue: AtomicU64,
-}
-
-impl Crossing {
-    fn wait_for(&self, caller: usize)
-        requires { caller < 2 }
-    {
-        for _ in 0..100_000_000u32 {
-            if self.answered[caller].load(Ordering::SeqCst) > 0 {
-                return;
-            }
-        }
-        self.overdue.store(1, Ordering::SeqCst);
-    }
-}
-
-impl Gate for Crossing {
-    fn before(&self, caller: u32, number: u32) {
-        match (caller, number) {
-            (0, 1) => self.wait_for(1),
-            (1, 2) => self.wait_for(0),
-            _ => {}
-        }
-    }
-
-    fn after(&self, caller: u32, number: u32) {
-        if caller < 2 && number == 1 {
-            self.answered[caller as usize].store(1, Ordering::SeqCst);
-        }
-    }
-}
-
 #[test]
 fn callers_run_side_by_side(rt: HostRuntime) -> Result<(), Fail> {
-    let gate = Crossing {
-        answered: [AtomicU64::new(0), AtomicU64::new(0)],
-        overdue: AtomicU64::new(0),
-    };
+    let gate = Crossing::new();
     let trace = b"0 take\n0 take\n1 take\n1 take\n";
-    let got = replayed(&rt, rt.alloc(), "--callers 2", trace, (&[], &[]), &gate)?;
+    let got = replayed(&rt, rt.alloc(), "--callers 2", trace, &SMALL, &gate)?;
     assert_eq!(rt; got.status, 0);
     assert_eq!(rt;
         got.sink.as_slice(),
         b"0 1 empty\n0 2 empty\n1 1 empty\n1 2 empty\nleft 0\n".as_slice()
     );
-    assert_eq!(rt; gate.overdue.load(Ordering::SeqCst), 0);
+    assert!(rt; !gate.is_overdue());
     Ok(())
 }
