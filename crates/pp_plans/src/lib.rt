@@ -7,6 +7,3 @@ pub mod parsing;
 
 pub use cutting::{Parts, part};
 pub use parsing::{PlanFault, PlanWhy, parse_plan};
-
-#[cfg(test)]
-mod tests;

@@ -53,6 +53,3 @@ pub fn polled<R: Wait + RandomSource + AllocGlobal, X: Runner, S: Source, K: Sin
     tell_way(errs, attempt.way);
     PolledEnding::of(attempt)
 }
-
-#[cfg(test)]
-mod tests;

@@ -10,6 +10,3 @@ pub mod schedule;
 
 pub use call_future::{CallFuture, Spoken};
 pub use runner::{BlockOn, NoRunner, Runner};
-
-#[cfg(test)]
-mod tests;

@@ -1,6 +1,6 @@
 //! A plan behind a trace.
 
-use crate::{PlanFault, PlanWhy, parse_plan, part};
+use pp_plans::{parse_plan, part};
 use std::test::Fail;
 
 #[test]

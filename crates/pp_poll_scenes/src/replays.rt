@@ -1,30 +1,20 @@
 //! Replays by a plan, as worked by hand.
 
-use crate::{BlockOn, NoRunner, Runner, polled};
 use pp_check::{Verdict, check};
-use pp_outside::{MemSink, MemSource};
+use pp_poll::{BlockOn, NoRunner, Runner, polled};
+use pp_program_scenes::{Devices, SOUND, Shown, Stage};
 use std::alloc::{AllocGlobal, Global};
 use std::process::Abort;
 use std::random::RandomSource;
 use std::sync::Wait;
 use std::test::Fail;
 
-/// What a replay by a plan showed.
-#[derive(Drop)]
-struct Shown {
-    status: u8,
-    sink: Vec<u8>,
-    errs: Vec<u8>,
-}
-
-/// The words of a line.
-fn words_of(alloc: Global, line: &str) -> Result<Vec<String>, Fail> {
-    let mut words = Vec::new(alloc);
-    for word in line.split_ascii_whitespace() {
-        words.push(String::from_str(alloc, word)?)?;
-    }
-    Ok(words)
-}
+/// Devices that move seven bytes at most.
+const SMALL: Devices<'static> = Devices {
+    read: 7,
+    write: 7,
+    ..SOUND
+};
 
 /// A replay by a plan with a source and sinks in memory.
 fn replayed<R: Wait + RandomSource + AllocGlobal, X: Runner>(
@@ -34,16 +24,17 @@ fn replayed<R: Wait + RandomSource + AllocGlobal, X: Runner>(
     runner: &mut X,
     input: &[u8],
 ) -> Result<Shown, Fail> {
-    let words = words_of(alloc, line)?;
-    let mut source = MemSource::new(input.to_vec(alloc)?, 7, Vec::new(alloc));
-    let mut sink = MemSink::new(alloc, 7, Vec::new(alloc));
-    let mut errs = MemSink::new(alloc, 7, Vec::new(alloc));
-    let ending = polled(rt, alloc, &words, runner, &mut source, &mut sink, &mut errs);
-    Ok(Shown {
-        status: ending.status,
-        sink: sink.written().to_vec(alloc)?,
-        errs: errs.written().to_vec(alloc)?,
-    })
+    let mut stage = Stage::new(alloc, line, input, &SMALL)?;
+    let ending = polled(
+        rt,
+        alloc,
+        &stage.words,
+        runner,
+        &mut stage.source,
+        &mut stage.sink,
+        &mut stage.errs,
+    );
+    Ok(stage.shown(alloc, ending.status)?)
 }
 
 const LIST: &[u8] =
