@@ -6,5 +6,3 @@ pub mod claims;
 pub mod counting;
 pub mod leaving;
 pub mod pieces;
-#[cfg(test)]
-mod tests;

@@ -1,15 +1,12 @@
 //! Devices that fail, inputs that are too long, and std's own reader and writer.
 
-use crate::tallying::{Devices, SOUND, tallied, words_of};
+use crate::tallying::{SMALL, SMALL_OUT, tallied};
 use pp_outside::{MemSink, NoGate, StdSink, StdSource};
+use pp_program_scenes::{Devices, SOUND, words_of};
 use pp_tally::tally;
 use std::collections::VecDeque;
 use std::fs;
 use std::test::Fail;
-
-const SMALL: &[u8] = b"abca\n";
-
-const SMALL_OUT: &[u8] = b"bytes 5\npieces 1\n10 1\n97 2\n98 1\n99 1\n";
 
 #[test]
 fn devices_fail_at_each_call_in_turn(rt: HostRuntime) -> Result<(), Fail> {

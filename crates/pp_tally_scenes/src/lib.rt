@@ -1,13 +1,8 @@
-//! Whole tallies, from words and bytes to statuses, counts and lines. This crate has tests alone.
+//! Whole tallies, from words and bytes to statuses, counts and lines. But for the tallies that tests begin with, it has tests alone.
 #![tactic(auto)]
 
 #[cfg(test)]
 mod crossing;
 #[cfg(test)]
 mod devices;
-#[cfg(test)]
-mod pieces;
-#[cfg(test)]
-mod rows;
-#[cfg(test)]
-mod tallying;
+pub mod tallying;

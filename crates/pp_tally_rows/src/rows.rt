@@ -1,12 +1,9 @@
 //! Tallies as worked by hand.
 
-use crate::tallying::{SOUND, tallied};
 use pp_outside::NoGate;
+use pp_program_scenes::SOUND;
+use pp_tally_scenes::tallying::{SMALL, SMALL_OUT, tallied};
 use std::test::Fail;
-
-const SMALL: &[u8] = b"abca\n";
-
-const SMALL_OUT: &[u8] = b"bytes 5\npieces 1\n10 1\n97 2\n98 1\n99 1\n";
 
 const NONE_OUT: &[u8] = b"bytes 0\npieces 0\n";
 

@@ -1,8 +1,8 @@
 //! Pieces and claims, worked by hand.
 
-use crate::claims::all_claims_of;
-use crate::pieces::count_pieces;
 use pp_model::Call;
+use pp_pieces::claims::all_claims_of;
+use pp_pieces::pieces::count_pieces;
 use std::test::Fail;
 
 #[test]

@@ -1,7 +1,8 @@
 //! Inputs of every size around one piece and around two, and maps that have no room for all pieces.
 
-use crate::tallying::{SOUND, tallied};
 use pp_outside::NoGate;
+use pp_program_scenes::SOUND;
+use pp_tally_scenes::tallying::tallied;
 use std::alloc::Global;
 use std::test::Fail;
 
