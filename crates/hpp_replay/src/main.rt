@@ -1,21 +1,16 @@
 //! Replays a trace of map calls, from standard input to standard output: the program of `pp_replay`.
 #![tactic(auto)]
 
-use pp_devices::{Way, tell};
 use pp_outside::{NoGate, StdSink, StdSource};
+use pp_programs::words;
 use pp_replay::replay;
 use std::process::ExitCode;
-use std::{env, io};
 
 fn main(rt: HostRuntime) -> ExitCode {
     let mut errs = StdSink::new(rt.stderr());
-    let words = match words(&rt) {
+    let words = match words(&rt, &mut errs) {
         Ok(words) => words,
-        Err(error) => {
-            let way = way_without_words(error.kind());
-            tell(&mut errs, way);
-            return ExitCode::from(way.status());
-        }
+        Err(status) => return ExitCode::from(status),
     };
     let mut source = StdSource::new(rt.stdin());
     let mut sink = StdSink::new(rt.stdout());
@@ -29,24 +24,4 @@ fn main(rt: HostRuntime) -> ExitCode {
         &NoGate,
     );
     ExitCode::from(ending.status)
-}
-
-// The words after the program's name.
-fn words(rt: &HostRuntime) -> io::Result<Vec<String>> {
-    let mut words = Vec::new(rt.alloc());
-    for word in env::args(rt)?.skip(1) {
-        if words.push(word).is_err() {
-            return Err(io::Error::from(io::ErrorKind::OutOfMemory));
-        }
-    }
-    Ok(words)
-}
-
-// The words can't be taken: there is no memory for them, or one isn't UTF-8.
-fn way_without_words(kind: io::ErrorKind) -> Way {
-    if kind == io::ErrorKind::OutOfMemory {
-        Way::NoMemory
-    } else {
-        Way::BadWords
-    }
 }

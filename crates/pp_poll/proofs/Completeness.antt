@@ -13,7 +13,7 @@ use Rattle.pp_devices.specs.Devices.{World}
 use Rattle.pp_plans.specs.declared.parsing.PlanWhy.{PlanWhy}
 use Rattle.pp_plans.specs.Parts.{parts_of}
 use Rattle.pp_plans.specs.Plans.{bad_behind}
-use Rattle.pp_replay.proofs.Completeness.{gave_all, gave_part}
+use Rattle.pp_programs.proofs.Given.{gave_all, gave_part}
 use Rattle.pp_poll.specs.declared.ways.PolledWay.{PolledWay}
 use Rattle.pp_poll.specs.declared.ways.PolledWay.TheVariants.{Ended, BadPlan, NotRun}
 use Rattle.pp_poll.specs.PolledWays.{status_of}
@@ -60,10 +60,11 @@ module _ (words : List (List ℕ)) (before after : World) (f g : ℕ) (answers :
   complete (Ended way.Answered) cause = inl refl
   complete (Ended (way.Partly full lost)) cause = inr (inl refl)
   complete (Ended way.BadWords) cause = absurd (let said = good.said_by in let none = cause.0 in cc)
-  complete (Ended (way.BadLine line why)) cause = absurd (no_bad_line cause.settings line why cause.said_by cause.reads cause.came)
+  complete (Ended (way.BadLine line why)) cause =
+      absurd (no_bad_line cause.settings line why cause.said_by.settings cause.said_by.reads cause.came)
   complete (Ended way.Unread) cause = absurd (good.source cause.came.rose)
-  complete (Ended way.TooLong) cause = absurd (not_too_long cause.settings cause.said_by cause.reads cause.came.gave)
+  complete (Ended way.TooLong) cause = absurd (not_too_long cause.settings cause.said_by.settings cause.said_by.reads cause.came.gave)
   complete (Ended way.Unwritten) cause = absurd (good.sink cause.rose)
   complete (Ended way.NoMemory) cause = inr (inr refl)
-  complete (BadPlan line why) cause = absurd (no_bad_plan cause.settings line why cause.said_by cause.reads cause.came)
+  complete (BadPlan line why) cause = absurd (no_bad_plan cause.settings line why cause.said_by.settings cause.said_by.reads cause.came)
   complete NotRun cause = absurd (good.runner cause.rose)

@@ -10,6 +10,7 @@ use Rattle.pp_model.proofs.PlainPasses.{length-upto}
 use Rattle.pp_model.specs.Pass.{PassView, MapSizes, Meaning, RunView}
 use Rattle.pp_outside.specs.Outside.{Rose}
 use Rattle.pp_trace.specs.declared.Make.{Make}
+use Rattle.pp_trace.specs.Text.{count_all, is_full, is_lost}
 use Rattle.pp_words.specs.declared.Settings.{Settings}
 use Rattle.pp_trace.specs.TraceLists.{KeysFit}
 use Rattle.pp_words.specs.declared.Kind.{Kind}
@@ -18,13 +19,14 @@ use Rattle.pp_words.specs.Words.{settings_of, InRange}
 use Rattle.pp_devices.specs.declared.ways.Way.{Way}
 use Rattle.pp_devices.specs.declared.ways.Way.TheVariants as way
 use Rattle.pp_devices.specs.Devices.{Device, world}
+use Rattle.pp_programs.specs.Causes.{WasSpared}
+use Rattle.pp_programs.specs.Printed.{IsFinished}
+use Rattle.pp_programs.proofs.Causes.{no_memory}
 use Rattle.pp_running.specs.Jobs.{AreCalls}
 use Rattle.pp_running.specs.Run.{IsRunOf}
 use Rattle.pp_planned.specs.Planned.{IsPlanned}
 use Rattle.pp_places.proofs.Fits.{fits_run}
 use Rattle.pp_replay.specs.Replay.{IsRunUnder, meaning_of, sizes_of}
-use Rattle.pp_replay.specs.Parts.{IsFinished, WasSpared}
-use Rattle.pp_replay.proofs.Finishes.{no_memory}
 use Rattle.pp_replay.proofs.Unders.{chosen}
 use Rattle.pp_poll.specs.declared.ways.PolledWay.{PolledWay}
 use Rattle.pp_poll.specs.declared.ways.PolledWay.TheVariants.{Ended, NotRun}
@@ -98,7 +100,8 @@ module _ (places : Bool) (words : List (List ℕ)) (settings : Settings) (lists 
   }
 
   -- a run whose text was printed in a way is the cause of a replay's ending in that way
-  pub cause_of : (w : Way) → IsFinished w was after answers (text_of places settings.make answers run)
+  pub cause_of : (w : Way) → IsFinished w was after (count_all is_full answers) (count_all is_lost answers)
+      (text_of places settings.make answers run)
       → ((w ≡ way.NoMemory → ⊥) → HasRanges places run)
       → Cause (Ended w) places words (world read was) (world now after) f g answers (Some run)
   cause_of way.Answered is ranges =

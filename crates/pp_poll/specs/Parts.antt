@@ -12,7 +12,8 @@ use Rattle.pp_plans.specs.Plans.{bad_behind}
 use Rattle.pp_planned.specs.Planned.{IsPlanned}
 use Rattle.pp_planned.specs.declared.PlannedFault.{PlannedFault}
 use Rattle.pp_planned.specs.declared.PlannedFault.TheVariants as fault
-use Rattle.pp_replay.specs.Parts.{IsChosen, WasSpared}
+use Rattle.pp_programs.specs.Causes.{WasSpared}
+use Rattle.pp_replay.specs.Parts.{IsChosen}
 use Rattle.pp_replay.specs.Replay.{meaning_of, sizes_of}
 use Rattle.pp_poll.specs.declared.ways.PolledWay.{PolledWay}
 use Rattle.pp_poll.specs.declared.ways.PolledWay.TheVariants.{Ended, BadPlan, NotRun}

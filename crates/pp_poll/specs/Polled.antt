@@ -14,11 +14,12 @@ use Rattle.pp_trace.specs.Text.{count_all, is_full, is_lost}
 use Rattle.pp_trace.specs.TraceLists.{IsTrace}
 use Rattle.pp_words.specs.declared.Settings.{Settings}
 use Rattle.pp_words.specs.Words.{settings_of}
+use Rattle.pp_programs.specs.Causes.{IsReading, HadNoMemory}
 use Rattle.pp_plans.specs.declared.parsing.PlanWhy.{PlanWhy}
 use Rattle.pp_plans.specs.Parts.{parts_of}
 use Rattle.pp_plans.specs.Plans.{IsPlan, bad_behind}
 use Rattle.pp_planned.specs.Planned.{IsPlanned}
-use Rattle.pp_replay.specs.Replay.{EndingView, meaning_of, sizes_of, WasMade, IsRunUnder, IsReading, HadNoMemory}
+use Rattle.pp_replay.specs.Replay.{EndingView, meaning_of, sizes_of, WasMade, IsRunUnder}
 use Rattle.pp_poll.specs.declared.ways.PolledWay.{PolledWay}
 use Rattle.pp_poll.specs.declared.ways.PolledWay.TheVariants.{Ended, BadPlan, NotRun}
 use Rattle.pp_poll.specs.PolledWays.{status_of, line_of}

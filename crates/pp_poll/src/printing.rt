@@ -1,6 +1,6 @@
 //! What a run by a plan shows: its answers and its contents, or the certificate of its log and lists.
 
-ghost use Rattle.std.specs.Prelude.{◌≡◌, ◌^◌, ◌<◌, ◌≤◌, map, length, [], false, IfOk};
+ghost use Rattle.std.specs.Prelude.{◌≡◌, ◌^◌, ◌<◌, ◌≤◌, map, length, IfOk};
 ghost use Rattle.pp_certificate.specs.Printed.{certificate_text};
 ghost use Rattle.pp_devices.specs.Devices.{device};
 ghost use Rattle.pp_devices.specs.declared.ways.Way.TheVariants as Way;
@@ -9,13 +9,14 @@ ghost use Rattle.pp_model.specs.Pass.{RunView};
 ghost use Rattle.pp_places.specs.Held.{AreHeld};
 ghost use Rattle.pp_places.specs.Places.{IsPlaced};
 ghost use Rattle.pp_poll.specs.Certificates.{text_of, IsHeldWith};
-ghost use Rattle.pp_replay.specs.Printed.{AreShort, IsPrinted};
-ghost use Rattle.pp_replay.specs.Parts.{IsFinished, IsWayOf};
+ghost use Rattle.pp_programs.specs.Printed.{AreShort, IsFinished};
+ghost use Rattle.pp_trace.specs.Text.{count_all, is_full, is_lost};
 
 use pp_devices::Way;
 use pp_model::{Answer, Call, NoMemory, Pair};
-use pp_outside::{Failed, Sink};
+use pp_outside::Sink;
 use pp_places::{certificate_of, history_of};
+use pp_programs::end;
 use pp_replay::printing::finish;
 use pp_trace::{Counts, Make, Printer};
 use std::alloc::Global;
@@ -40,7 +41,8 @@ pub fn show<K: Sink>(
     ensures shown { (run : RunView) → IsPlaced (map (λ v. v.items) lists.now) (map (λ v. v.items) answers.now)
         (map (λ v. v.items) marks.now) run → contents.now ≡ contents_of run.log
         → IsFinished result (device (K.written sink.old) (K.faults sink.old)) (device (K.written sink.new) (K.faults sink.new))
-        (map (λ v. v.items) answers.now) (text_of places make (map (λ v. v.items) answers.now) run) }
+        (count_all is_full (map (λ v. v.items) answers.now)) (count_all is_lost (map (λ v. v.items) answers.now))
+        (text_of places make (map (λ v. v.items) answers.now) run) }
     ensures held { (run : RunView) → IsPlaced (map (λ v. v.items) lists.now) (map (λ v. v.items) answers.now)
         (map (λ v. v.items) marks.now) run → (result ≡ Way.NoMemory → ⊥) → IsHeldWith places run }
 {
@@ -65,21 +67,20 @@ fn show_certificate<K: Sink>(
     ensures shown { (run : RunView) → IsPlaced (map (λ v. v.items) lists.now) (map (λ v. v.items) answers.now)
         (map (λ v. v.items) marks.now) run
         → IsFinished result (device (K.written sink.old) (K.faults sink.old)) (device (K.written sink.new) (K.faults sink.new))
-        (map (λ v. v.items) answers.now) (certificate_text run.log (map (λ r. r.mine) run.callers)) }
+        (count_all is_full (map (λ v. v.items) answers.now)) (count_all is_lost (map (λ v. v.items) answers.now))
+        (certificate_text run.log (map (λ r. r.mine) run.callers)) }
     ensures held { (run : RunView) → IsPlaced (map (λ v. v.items) lists.now) (map (λ v. v.items) answers.now)
         (map (λ v. v.items) marks.now) run → (result ≡ Way.NoMemory → ⊥) → AreHeld run.log (map (λ r. r.mine) run.callers) }
 {
     let Ok(text) = certificate_for(alloc, lists, answers, marks) else {
         return Way::NoMemory;
     };
-    let Ok(printer) = Printer::new(alloc) else {
+    let Ok(mut printer) = Printer::new(alloc) else {
         return Way::NoMemory;
     };
     let counts = Counts::of(answers);
-    match print(printer, sink, &text) {
-        Ok(()) => way_of(counts.full, counts.lost),
-        Err(_) => Way::Unwritten,
-    }
+    let printed = printer.put(sink, &text);
+    end(printer, sink, printed, counts.full, counts.lost)
 }
 
 /// The certificate of the run with these calls, answers and marks.
@@ -104,22 +105,4 @@ fn certificate_for(
 {
     let history = history_of(alloc, lists, answers, marks)?;
     certificate_of(alloc, &history.log, &history.lists)
-}
-
-fn print<K: Sink>(mut printer: Printer, sink: &mut K, text: &[u8]) -> Result<(), Failed>
-    requires { printer ≡ record { waits = []; failed = false } }
-    ensures { IsPrinted (K.written sink.old) (K.faults sink.old) (K.written sink.new) (K.faults sink.new) text.now result }
-{
-    printer.put(sink, text)?;
-    printer.end(sink)
-}
-
-fn way_of(full: u32, lost: u32) -> Way
-    ensures { IsWayOf full lost result }
-{
-    if full == 0 && lost == 0 {
-        Way::Answered
-    } else {
-        Way::Partly { full, lost }
-    }
 }

@@ -1,38 +1,26 @@
 -- Where nothing fails and nothing is wrong, a queue's replay answers its lines.
-use Rattle.std.proofs.Common.{◌≡◌, ℕ, ◌≤◌, List, length, refl, sym, ap, ap₂, ◌∙◌, inl, inr, arith, length-append}
+use Rattle.std.proofs.Common.{◌≡◌, ℕ, List, refl, sym, ap, ap₂, ◌∙◌, inl, inr, arith}
 use Rattle.std.specs.Prelude.{Option, Some, None}
-use Rattle.std.specs.Io.KnownBytes.{Consumes}
-use Rattle.std.proofs.KnownBytes.{Consumes-whole}
-use Rattle.pp_outside.specs.Outside.{WasAll, GaveMore}
+use Rattle.pp_outside.specs.Outside.{GaveMore}
 use Rattle.pp_devices.specs.declared.ways.Way.{Way}
 use Rattle.pp_devices.specs.declared.ways.Way.TheVariants as way
 use Rattle.pp_devices.specs.Devices.{World}
 use Rattle.pp_devices.specs.Ways.{status_of}
 use Rattle.pp_trace.specs.declared.Why.{Why}
 use Rattle.pp_words.specs.declared.Settings.{Settings}
+use Rattle.pp_programs.specs.Causes.{Says}
+use Rattle.pp_programs.proofs.Given.{gave_all, gave_part}
 use Rattle.pp_queues.specs.declared.calls.QueueAnswer.{QueueAnswer}
 use Rattle.pp_queue.specs.Closings.{QueueRun}
 use Rattle.pp_queue_replay.specs.Grammar.{bad}
-use Rattle.pp_queue_replay.specs.Replay.{Cause, Says, HasBadLine, IsGood, IsAnswered}
-
--- a source that tells its bytes gave these
-gave_all : (old new : Option (List ℕ)) (own bytes : List ℕ) → old ≡ Some own → WasAll old new bytes → own ≡ bytes
-gave_all old new own bytes tells all =
-    rw tells at (Consumes-whole old new bytes (λ l. l ≡ bytes) all.consumed all.end refl)
-
-gave_part : (old new : Option (List ℕ)) (own bytes : List ℕ) → old ≡ Some own → Consumes old new bytes → length bytes ≤ length own
-gave_part None new own bytes tells gave = absurd cc
-gave_part (Some xs) None own bytes tells gave = absurd gave
-gave_part (Some xs) (Some ys) own bytes tells gave =
-    let same : xs ≡ own = cc in
-    omega (arith, length-append bytes ys, ap length gave, ap length same)
+use Rattle.pp_queue_replay.specs.Replay.{Cause, HasBadLine, IsGood, IsAnswered, and_list}
 
 module _ (words : List (List ℕ)) (before after : World) (answers : List (List QueueAnswer)) (kept : Option QueueRun)
     (good : IsGood words before after) where
-  same_settings : (settings : Settings) → Says words settings → settings ≡ good.settings
+  same_settings : (settings : Settings) → Says (and_list words) settings → settings ≡ good.settings
   same_settings settings said = let mine = good.said_by.settings in let own = said.settings in cc
 
-  no_bad_line : (settings : Settings) (line : ℕ) (why : Why) → Says words settings
+  no_bad_line : (settings : Settings) (line : ℕ) (why : Why) → Says (and_list words) settings
       → HasBadLine settings.callers line why before.source after.source → ⊥
   no_bad_line settings line why said found =
       let same = same_settings settings said in

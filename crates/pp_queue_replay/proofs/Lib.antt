@@ -7,7 +7,6 @@ pub mod Chains
 pub mod Runs
 pub mod RunJobs
 pub mod Tallies
-pub mod PrintedTexts
 pub mod Finishes
 pub mod Completeness
 pub mod Starts

@@ -24,10 +24,11 @@ use Rattle.pp_queues.specs.Calls.{QueuePassView}
 use Rattle.pp_queues.specs.Queue.{items_of}
 use Rattle.pp_queue.specs.Closings.{QueueRun}
 use Rattle.pp_queue.specs.Passes.{IsNew, pass_seen, queue_sizes}
-use Rattle.pp_queue_replay.specs.Parts.{AreShort}
+use Rattle.pp_programs.specs.Printed.{AreShort}
+use Rattle.pp_programs.proofs.Counts.{none_counted, none_of_all}
 use Rattle.pp_queue_replay.specs.Replay.{IsRunUnder}
 use Rattle.pp_queue_replay.specs.Runs.{IsOpened, IsRunOf, IsCaller, puts}
-use Rattle.pp_queue_replay.specs.Text.{count_all, is_full, is_lost}
+use Rattle.pp_queue_replay.specs.Text.{is_full, is_lost}
 use Rattle.pp_queue_replay.proofs.Chains.{answers_each, never_full, never_lost}
 
 numbers_long : (low n : ℕ) → length (numbers_from low n) ≡ n
@@ -50,24 +51,6 @@ module _ {S : Type 0} {shape : Ghosts S QueueChange QueuePlaced QueueOwn} where
   pub share_new : (z : Sizes) (c : ℕ) (p : Pass S QueueChange QueuePlaced QueueOwn shape) → IsNew z c p
       → (pass_seen p).share ≡ share_of 1 z c
   share_new z c p new = ap (λ v. v.share) new.seen_so
-
-none_counted : (test : QueueAnswer → Bool) (answers : List QueueAnswer) → AtEach answers (λ k a. test a ≡ true → ⊥)
-    → count_by test answers ≡ 0
-none_counted test [] each = refl
-none_counted test (a ∷ answers) each =
-    let ih : count_by test answers ≡ 0 = none_counted test answers (λ k x at. each (suc k) x at) in
-    ⊎_elim (λ (yes : test a ≡ true). absurd (each 0 a refl yes))
-    (λ (no : test a ≡ false). let one : cond {A = ℕ} (test a) 1 0 ≡ 0 = ap (λ b. cond b 1 0) no in
-    sum_by-cons (λ x. cond (test x) 1 0) a answers ∙ ap₂ (λ (x y : ℕ). x + y) one ih)
-    (cases_Bool (test a))
-
-none_of_all : (test : QueueAnswer → Bool) (lists : List (List QueueAnswer)) → AtEach lists (λ c got. count_by test got ≡ 0)
-    → count_all test lists ≡ 0
-none_of_all test [] each = refl
-none_of_all test (x ∷ lists) each =
-    let here : count_by test x ≡ 0 = each 0 x refl in
-    let ih = none_of_all test lists (λ k y at. each (suc k) y at) in
-    sum_by-cons (count_by test) x lists ∙ ap₂ (λ (x y : ℕ). x + y) here ih
 
 full_is : (a : QueueAnswer) → is_full a ≡ true → a ≡ Full
 full_is (Said r) e = absurd cc

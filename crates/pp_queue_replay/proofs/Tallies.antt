@@ -3,7 +3,7 @@ use Rattle.std.proofs.Common.{◌≡◌, ℕ, ◌+◌, ◌^◌, ◌<◌, ◌≤�
 use Rattle.std.specs.Prelude.{count_by, sum_by}
 use Rattle.std.proofs.lemmas.List.Sums.{count_by-le-length, sum_by-cons, sum_by_more, sum_by-take-le}
 use Rattle.pp_queues.specs.declared.calls.QueueAnswer.{QueueAnswer}
-use Rattle.pp_queue_replay.specs.Text.{count_all}
+use Rattle.pp_trace.specs.Text.{count_all}
 
 -- one more answer
 pub count_more : (test : QueueAnswer → Bool) (answers : List QueueAnswer) (i : ℕ) (d : QueueAnswer) → i < length answers

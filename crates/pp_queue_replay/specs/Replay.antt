@@ -4,13 +4,14 @@ use Rattle.std.specs.Io.KnownBytes.{Appends}
 use Rattle.pp_outside.specs.Outside.{Rose, WasAll, GrewByPrefix}
 use Rattle.pp_devices.specs.declared.ways.Way.{Way}
 use Rattle.pp_devices.specs.declared.ways.Way.TheVariants as way
-use Rattle.pp_devices.specs.Devices.{Device, World, WasUnread, WasTooLong, Untouched}
+use Rattle.pp_devices.specs.Devices.{Device, World, WasUnread, WasTooLong}
 use Rattle.pp_devices.specs.Ways.{status_of, line_of}
 use Rattle.pp_model.specs.Lists.{AtEach}
 use Rattle.pp_rule.specs.Opening.{share_of}
 use Rattle.pp_trace.specs.declared.Why.{Why}
+use Rattle.pp_trace.specs.Text.{count_all}
 use Rattle.pp_words.specs.declared.Settings.{Settings}
-use Rattle.pp_words.specs.Words.{settings_of}
+use Rattle.pp_programs.specs.Causes.{Says, IsReading, IsRefused, HadNoMemory}
 use Rattle.pp_queues.specs.declared.calls.QueueAnswer.{QueueAnswer}
 use Rattle.pp_queues.specs.declared.calls.QueueCall.{QueueCall}
 use Rattle.pp_queues.specs.Calls.{QueuePassView}
@@ -19,7 +20,7 @@ use Rattle.pp_queue.specs.Closings.{QueueRun}
 use Rattle.pp_queue.specs.Passes.{queue_sizes}
 use Rattle.pp_queue_replay.specs.Grammar.{bad, IsTrace}
 use Rattle.pp_queue_replay.specs.Runs.{IsRunOf, puts}
-use Rattle.pp_queue_replay.specs.Text.{out, count_all, is_full, is_lost}
+use Rattle.pp_queue_replay.specs.Text.{out, is_full, is_lost}
 
 -- what contracts see of an ending: its status, the callers' answers, and the run that was closed
 pub record EndingView : Type 0 where
@@ -30,11 +31,6 @@ pub record EndingView : Type 0 where
 -- the words are read as those of a replay on a list
 abbrev pub and_list : List (List ℕ) → List (List ℕ)
 and_list words = codes "--map" ∷ codes "list" ∷ words
-
--- the words say these settings, and ask for no made trace
-pub record Says (words : List (List ℕ)) (s : Settings) : Type 0 where
-  pub settings : settings_of (and_list words) ≡ Some s
-  pub reads : s.make ≡ None
 
 -- ---- the calls
 
@@ -73,7 +69,7 @@ pub record IsRunUnder (settings : Settings) (lists : List (List QueueCall)) (ans
 pub record IsReplay (words : List (List ℕ)) (before after : World) (answers : List (List QueueAnswer))
     (kept : Option QueueRun) : Type 0 where
   pub settings : Settings
-  pub said_by : Says words settings
+  pub said_by : Says (and_list words) settings
   pub lists : List (List QueueCall)
   pub calls : WasRead settings.callers before.source after.source lists
   pub run : QueueRun
@@ -97,39 +93,20 @@ pub record IsCut (words : List (List ℕ)) (before after : World) (answers : Lis
   pub rose : Rose before.sink.faults after.sink.faults
   pub written : GrewByPrefix before.sink.bytes after.sink.bytes replay.text
 
--- ---- what a refused replay says
-
--- the words say settings under which the source is read; reading came to this, and the sink is as it was
-pub record IsReading (words : List (List ℕ)) (before after : World) (Came : Settings → Type 0) : Type 0 where
-  pub settings : Settings
-  pub said_by : Says words settings
-  pub came : Came settings
-  pub quiet : after.sink ≡ before.sink
-
--- the words say no settings, or ask for a made trace, and nothing was read or written
-pub record IsRefused (words : List (List ℕ)) (before after : World) : Type 0 where
-  pub none : (s : Settings) → Says words s → ⊥
-  pub untouched : Untouched before after
-
--- there was no memory: nothing was written, and no read failed
-pub record HadNoMemory (before after : World) : Type 0 where
-  pub quiet : after.sink ≡ before.sink
-  pub unfailed : after.source.faults ≡ before.source.faults
-
 -- ---- the ending
 
 -- why a replay ended in this way
 abbrev pub Cause : Way → List (List ℕ) → World → World → List (List QueueAnswer) → Option QueueRun → Type 0
 Cause way.Answered words before after answers kept = IsWhole words before after answers kept 0 0
 Cause (way.Partly full lost) words before after answers kept = IsWhole words before after answers kept full lost × (0 < full + lost)
-Cause way.BadWords words before after answers kept = IsRefused words before after
+Cause way.BadWords words before after answers kept = IsRefused (and_list words) before after
 Cause (way.BadLine line why) words before after answers kept =
-    IsReading words before after (λ s. HasBadLine s.callers line why before.source after.source)
-Cause way.Unread words before after answers kept = IsReading words before after (λ s. WasUnread before.source after.source)
+    IsReading (and_list words) before after (λ s. HasBadLine s.callers line why before.source after.source)
+Cause way.Unread words before after answers kept = IsReading (and_list words) before after (λ s. WasUnread before.source after.source)
 Cause way.TooLong words before after answers kept =
-    IsReading words before after (λ s. WasTooLong before.source after.source)
+    IsReading (and_list words) before after (λ s. WasTooLong before.source after.source)
 Cause way.Unwritten words before after answers kept = IsCut words before after answers kept
-Cause way.NoMemory words before after answers kept = HadNoMemory before after
+Cause way.NoMemory words before after answers kept = HadNoMemory (and_list words) before after
 
 -- The ending of a replay: it ended in one way, by its cause, with its status, and its line was told.
 pub record IsEnding (words : List (List ℕ)) (before after : World) (Told : List ℕ → Type 0) (ending : EndingView) : Type 0 where
@@ -143,7 +120,7 @@ pub record IsEnding (words : List (List ℕ)) (before after : World) (Told : Lis
 -- The words say settings; the source has bytes that fit and have no bad line; and neither the source nor the sink failed.
 pub record IsGood (words : List (List ℕ)) (before after : World) : Type 0 where
   pub settings : Settings
-  pub said_by : Says words settings
+  pub said_by : Says (and_list words) settings
   pub bytes : List ℕ
   pub tells : before.source.bytes ≡ Some bytes
   pub within : length bytes ≤ 16777216

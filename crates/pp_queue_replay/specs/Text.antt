@@ -1,8 +1,8 @@
 -- The text of a run on a queue.
-use Rattle.std.specs.Prelude.{ℕ, ◌+◌, Bool, true, false, List, [], ◌∷◌, ◌++◌, length, codes, count_by, sum_by}
+use Rattle.std.specs.Prelude.{ℕ, Bool, true, false, List, [], ◌++◌, length, codes}
 use Rattle.std.specs.Fmt.{decimal}
 use Rattle.std.specs.List.{flat_map}
-use Rattle.pp_trace.specs.Text.{counted_line}
+use Rattle.pp_trace.specs.Text.{callers_text, counted_line}
 use Rattle.pp_queues.specs.declared.calls.QueueAnswer.{QueueAnswer}
 use Rattle.pp_queues.specs.declared.calls.QueueAnswer.TheVariants as answer
 use Rattle.pp_queues.specs.declared.calls.QueueReply.TheVariants as said
@@ -19,23 +19,13 @@ answer_text (answer.Lost turns) = codes "lost"
 abbrev pub answer_line : ℕ → ℕ → QueueAnswer → List ℕ
 answer_line caller number a = decimal caller ++ codes " " ++ decimal number ++ codes " " ++ answer_text a ++ codes "\n"
 
--- the lines of a caller's answers, numbered from n on
-abbrev pub caller_text : ℕ → ℕ → List QueueAnswer → List ℕ
-caller_text caller n [] = []
-caller_text caller n (a ∷ answers) = answer_line caller n a ++ caller_text caller (n + 1) answers
-
--- those of all callers, from caller c on
-abbrev pub callers_text : ℕ → List (List QueueAnswer) → List ℕ
-callers_text c [] = []
-callers_text c (answers ∷ rest) = caller_text c 1 answers ++ callers_text (c + 1) rest
-
 -- how many items are left, and a line for each, the first one the next to be taken
 abbrev pub left_text : List ℕ → List ℕ
 left_text items = counted_line (codes "left ") (length items) ++ flat_map (counted_line []) items
 
 -- the output
 abbrev pub out : List (List QueueAnswer) → List ℕ → List ℕ
-out answers items = callers_text 0 answers ++ left_text items
+out answers items = callers_text answer_line 0 answers ++ left_text items
 
 abbrev pub is_full : QueueAnswer → Bool
 is_full answer.Full = true
@@ -44,7 +34,3 @@ is_full _ = false
 abbrev pub is_lost : QueueAnswer → Bool
 is_lost (answer.Lost turns) = true
 is_lost _ = false
-
--- how many answers of all callers a test takes
-abbrev pub count_all : (QueueAnswer → Bool) → List (List QueueAnswer) → ℕ
-count_all test answers = sum_by (count_by test) answers

@@ -4,10 +4,11 @@ ghost use Rattle.std.specs.Prelude.{◌≡◌, ◌≤◌, ℕ, List, [], map, le
 ghost use Rattle.pp_devices.specs.declared.ways.Way.TheVariants as Way;
 ghost use Rattle.pp_devices.specs.Devices.{Device, device, world};
 ghost use Rattle.pp_words.specs.Words.{settings_of, InRange};
+ghost use Rattle.pp_programs.specs.Causes.{Says};
 ghost use Rattle.pp_queue_replay.specs.Grammar.{IsTrace};
 ghost use Rattle.pp_queue_replay.specs.Jobs.{AreCalls};
 ghost use Rattle.pp_queue_replay.specs.Parts.{HasNoCalls, HasBadTrace};
-ghost use Rattle.pp_queue_replay.specs.Replay.{Cause, Says, WasRead, and_list};
+ghost use Rattle.pp_queue_replay.specs.Replay.{Cause, WasRead, and_list};
 ghost use Rattle.pp_queue_replay.specs.View.{kept_run};
 
 use crate::parsing::parse;
@@ -151,7 +152,7 @@ fn run_queue<R: Threads + Sync, K: Sink, G: Gate + Sync>(
 ) -> Attempt
     requires within { InRange settings }
     requires calls { AreCalls settings.callers (map (λ v. v.items) lists.items) }
-    ensures { (words : List (List ℕ)) → (before : Device) → (after : Device) → Says words settings
+    ensures { (words : List (List ℕ)) → (before : Device) → (after : Device) → Says (and_list words) settings
         → WasRead settings.callers before after (map (λ v. v.items) lists.items) → Cause result.way words
         (world before (device (K.written sink.old) (K.faults sink.old))) (world after (device (K.written sink.new) (K.faults sink.new)))
         (map (λ v. v.items) result.answers.items) (kept_run result.kept) }

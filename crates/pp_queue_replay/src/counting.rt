@@ -1,7 +1,8 @@
 //! How many answers of a run are full, and how many are lost.
 
 ghost use Rattle.std.specs.Prelude.{◌≡◌, ◌+◌, ◌≤◌, ◌<◌, ◌^◌, map, length, sum_by, count_by};
-ghost use Rattle.pp_queue_replay.specs.Text.{count_all, is_full, is_lost};
+ghost use Rattle.pp_trace.specs.Text.{count_all};
+ghost use Rattle.pp_queue_replay.specs.Text.{is_full, is_lost};
 
 use pp_queues::calls::QueueAnswer;
 

@@ -1,15 +1,17 @@
 //! The answers and the items of a run, printed.
 
-ghost use Rattle.std.specs.Prelude.{◌≡◌, ◌≤◌, map, length, false, []};
+ghost use Rattle.std.specs.Prelude.{◌≡◌, map, false};
 ghost use Rattle.pp_trace.specs.Printing.{Puts};
+ghost use Rattle.pp_trace.specs.Text.{count_all};
 ghost use Rattle.pp_devices.specs.Devices.{device};
-ghost use Rattle.pp_queue_replay.specs.Parts.{IsPrinted, AreShort, IsFinished, IsWayOf};
-ghost use Rattle.pp_queue_replay.specs.Text.{callers_text, caller_text, left_text, out};
+ghost use Rattle.pp_programs.specs.Printed.{AreShort, IsFinished};
+ghost use Rattle.pp_queue_replay.specs.Text.{answer_line, is_full, is_lost, left_text, out};
 
 use crate::counting::Counts;
 use crate::text;
 use pp_devices::Way;
 use pp_outside::{Failed, Sink};
+use pp_programs::{AnswerLines, end, print_answers};
 use pp_queues::calls::QueueAnswer;
 use pp_trace::Printer;
 use std::alloc::Global;
@@ -23,43 +25,15 @@ pub fn finish<K: Sink>(
 ) -> Way
     requires short { AreShort (map (λ v. v.items) answers.now) }
     ensures { IsFinished result (device (K.written sink.old) (K.faults sink.old)) (device (K.written sink.new) (K.faults sink.new))
-        (map (λ v. v.items) answers.now) (out (map (λ v. v.items) answers.now) items.now) }
+        (count_all is_full (map (λ v. v.items) answers.now)) (count_all is_lost (map (λ v. v.items) answers.now))
+        (out (map (λ v. v.items) answers.now) items.now) }
 {
-    let Ok(printer) = Printer::new(alloc) else {
+    let Ok(mut printer) = Printer::new(alloc) else {
         return Way::NoMemory;
     };
-    match print(printer, sink, answers, items) {
-        Ok(()) => {
-            let counts = Counts::of(answers);
-            way_of(counts.full, counts.lost)
-        }
-        Err(_) => Way::Unwritten,
-    }
-}
-
-fn way_of(full: u32, lost: u32) -> Way
-    ensures { IsWayOf full lost result }
-{
-    if full == 0 && lost == 0 {
-        Way::Answered
-    } else {
-        Way::Partly { full, lost }
-    }
-}
-
-fn print<K: Sink>(
-    mut printer: Printer,
-    sink: &mut K,
-    answers: &[Vec<QueueAnswer>],
-    items: &[u128],
-) -> Result<(), Failed>
-    requires empty { printer ≡ record { waits = []; failed = false } }
-    requires short { AreShort (map (λ v. v.items) answers.now) }
-    ensures { IsPrinted (K.written sink.old) (K.faults sink.old) (K.written sink.new) (K.faults sink.new)
-        (out (map (λ v. v.items) answers.now) items.now) result }
-{
-    print_text(&mut printer, sink, answers, items)?;
-    printer.end(sink)
+    let printed = print_text(&mut printer, sink, answers, items);
+    let counts = Counts::of(answers);
+    end(printer, sink, printed, counts.full, counts.lost)
 }
 
 fn print_text<K: Sink>(
@@ -73,8 +47,28 @@ fn print_text<K: Sink>(
     ensures { Puts K.written K.faults K.Writes sink.old sink.new printer.old printer.new
         (out (map (λ v. v.items) answers.now) items.now) result }
 {
-    print_answers(printer, sink, answers)?;
+    print_answers::<QueueLines, K>(printer, sink, answers)?;
     print_left(printer, sink, items)
+}
+
+/// The lines of a queue's answers.
+struct QueueLines;
+
+impl AnswerLines for QueueLines {
+    type Answer = QueueAnswer;
+
+    ghost line = { answer_line };
+
+    fn print<K: Sink>(
+        printer: &mut Printer,
+        sink: &mut K,
+        caller: u32,
+        number: u32,
+        answer: &QueueAnswer,
+    ) -> Result<(), Failed> {
+        let line = text::of_answer(caller, number, answer);
+        printer.put(sink, line.as_str().as_bytes())
+    }
 }
 
 /// Prints how many items are left, and then each on a line.
@@ -87,44 +81,6 @@ fn print_left<K: Sink>(printer: &mut Printer, sink: &mut K, items: &[u128]) -> R
     for item in items {
         let line = text::of_item(*item);
         printer.put(sink, line.as_str().as_bytes())?;
-    }
-    Ok(())
-}
-
-fn print_answers<K: Sink>(
-    printer: &mut Printer,
-    sink: &mut K,
-    answers: &[Vec<QueueAnswer>],
-) -> Result<(), Failed>
-    requires whole { printer.old.failed ≡ false }
-    requires short { AreShort (map (λ v. v.items) answers.now) }
-    ensures { Puts K.written K.faults K.Writes sink.old sink.new printer.old printer.new
-        (callers_text 0 (map (λ v. v.items) answers.now)) result }
-{
-    let mut caller = 0u32;
-    for given in answers {
-        print_caller(printer, sink, caller, given)?;
-        caller = caller.saturating_add(1);
-    }
-    Ok(())
-}
-
-fn print_caller<K: Sink>(
-    printer: &mut Printer,
-    sink: &mut K,
-    caller: u32,
-    answers: &[QueueAnswer],
-) -> Result<(), Failed>
-    requires whole { printer.old.failed ≡ false }
-    requires short { length answers.now ≤ 16777216 }
-    ensures { Puts K.written K.faults K.Writes sink.old sink.new printer.old printer.new
-        (caller_text caller 1 answers.now) result }
-{
-    let mut number = 1u32;
-    for answer in answers {
-        let line = text::of_answer(caller, number, answer);
-        printer.put(sink, line.as_str().as_bytes())?;
-        number = number.saturating_add(1);
     }
     Ok(())
 }

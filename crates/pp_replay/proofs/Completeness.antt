@@ -1,9 +1,7 @@
 -- Where nothing fails and nothing is wrong, a replay answers its lines.
-use Rattle.std.proofs.Common.{◌≡◌, ℕ, ◌≤◌, List, length, refl, sym, ap, ap₂, ◌∙◌, inl, inr, arith, length-append}
+use Rattle.std.proofs.Common.{◌≡◌, ℕ, List, refl, sym, ap, ap₂, ◌∙◌, inl, inr, arith}
 use Rattle.std.specs.Prelude.{Option, Some, None}
-use Rattle.std.specs.Io.KnownBytes.{Consumes}
-use Rattle.std.proofs.KnownBytes.{Consumes-whole}
-use Rattle.pp_outside.specs.Outside.{WasAll, GaveMore}
+use Rattle.pp_outside.specs.Outside.{GaveMore}
 use Rattle.pp_model.specs.declared.Answer.{Answer}
 use Rattle.pp_model.specs.Pass.{RunView}
 use Rattle.pp_trace.specs.declared.Why.{Why}
@@ -14,19 +12,8 @@ use Rattle.pp_devices.specs.declared.ways.Way.{Way}
 use Rattle.pp_devices.specs.declared.ways.Way.TheVariants as way
 use Rattle.pp_devices.specs.Devices.{World}
 use Rattle.pp_devices.specs.Ways.{status_of}
+use Rattle.pp_programs.proofs.Given.{gave_all, gave_part}
 use Rattle.pp_replay.specs.Replay.{Cause, HasBadLine, IsGood, IsAnswered}
-
--- a source that tells its bytes gave these
-pub gave_all : (old new : Option (List ℕ)) (own bytes : List ℕ) → old ≡ Some own → WasAll old new bytes → own ≡ bytes
-gave_all old new own bytes tells all =
-    rw tells at (Consumes-whole old new bytes (λ l. l ≡ bytes) all.consumed all.end refl)
-
-pub gave_part : (old new : Option (List ℕ)) (own bytes : List ℕ) → old ≡ Some own → Consumes old new bytes → length bytes ≤ length own
-gave_part None new own bytes tells gave = absurd cc
-gave_part (Some xs) None own bytes tells gave = absurd gave
-gave_part (Some xs) (Some ys) own bytes tells gave =
-    let same : xs ≡ own = cc in
-    omega (arith, length-append bytes ys, ap length gave, ap length same)
 
 module _ (words : List (List ℕ)) (before after : World) (answers : List (List Answer)) (kept : Option RunView)
     (good : IsGood words before after) where
@@ -55,8 +42,8 @@ module _ (words : List (List ℕ)) (before after : World) (answers : List (List 
   complete way.Answered cause = inl refl
   complete (way.Partly full lost) cause = inr (inl refl)
   complete way.BadWords cause = absurd (let said = good.said_by in let none = cause.0 in cc)
-  complete (way.BadLine line why) cause = absurd (no_bad_line cause.settings line why cause.said_by cause.reads cause.came)
+  complete (way.BadLine line why) cause = absurd (no_bad_line cause.settings line why cause.said_by.settings cause.said_by.reads cause.came)
   complete way.Unread cause = absurd (good.source cause.came.rose)
-  complete way.TooLong cause = absurd (not_too_long cause.settings cause.said_by cause.reads cause.came.gave)
+  complete way.TooLong cause = absurd (not_too_long cause.settings cause.said_by.settings cause.said_by.reads cause.came.gave)
   complete way.Unwritten cause = absurd (good.sink cause.rose)
   complete way.NoMemory cause = inr (inr refl)

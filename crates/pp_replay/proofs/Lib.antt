@@ -1,4 +1,3 @@
-pub mod PrintedTexts
 pub mod Finishes
 pub mod Unders
 pub mod PlainRuns

@@ -20,26 +20,9 @@ use Rattle.pp_words.specs.Words.{InRange}
 use Rattle.pp_running.specs.Run.{IsRunOf, IsCaller}
 use Rattle.pp_running.proofs.Callers as callers
 use Rattle.pp_replay.specs.Replay.{IsRunUnder, meaning_of, sizes_of, share_of}
-use Rattle.pp_replay.specs.Printed.{AreShort}
+use Rattle.pp_programs.specs.Printed.{AreShort}
+use Rattle.pp_programs.proofs.Counts.{none_counted, none_of_all}
 use Rattle.pp_replay.specs.Parts.{IsChosen}
-
--- ---- no answer of a kind
-
-none_counted : (test : Answer → Bool) (answers : List Answer) → AtEach answers (λ k a. test a ≡ true → ⊥) → count_by test answers ≡ 0
-none_counted test [] each = refl
-none_counted test (a ∷ answers) each =
-    let ih : count_by test answers ≡ 0 = none_counted test answers (λ k x at. each (suc k) x at) in
-    ⊎_elim (λ (yes : test a ≡ true). absurd (each 0 a refl yes))
-    (λ (no : test a ≡ false). let one : cond {A = ℕ} (test a) 1 0 ≡ 0 = ap (λ b. cond b 1 0) no in
-    sum_by-cons (λ x. cond (test x) 1 0) a answers ∙ ap₂ (λ (x y : ℕ). x + y) one ih)
-    (cases_Bool (test a))
-
-none_of_all : (test : Answer → Bool) (lists : List (List Answer)) → AtEach lists (λ c got. count_by test got ≡ 0) → count_all test lists ≡ 0
-none_of_all test [] each = refl
-none_of_all test (x ∷ lists) each =
-    let here : count_by test x ≡ 0 = each 0 x refl in
-    let ih = none_of_all test lists (λ k y at. each (suc k) y at) in
-    sum_by-cons (count_by test) x lists ∙ ap₂ (λ (x y : ℕ). x + y) here ih
 
 full_is : (a : Answer) → is_full a ≡ true → a ≡ Full
 full_is (Said r) e = absurd cc

@@ -1,4 +1,3 @@
-pub mod Printed
 pub mod Replay
 pub mod Parts
 pub mod View

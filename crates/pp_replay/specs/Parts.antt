@@ -1,18 +1,16 @@
 -- What the parts of a replay come to.
-use Rattle.std.specs.Prelude.{◌≡◌, ◌⊎◌, ℕ, ◌+◌, ◌<◌, ◌≤◌, List, Option, Some, None, ⊤}
-use Rattle.std.specs.Io.KnownBytes.{Appends}
-use Rattle.pp_outside.specs.Outside.{Rose, GrewByPrefix}
+use Rattle.std.specs.Prelude.{◌≡◌, ◌⊎◌, ℕ, ◌≤◌, List, Option, Some, None, ⊤}
 use Rattle.pp_model.specs.declared.Answer.{Answer}
 use Rattle.pp_model.specs.declared.Call.{Call}
 use Rattle.pp_model.specs.Pass.{PassView, MapSizes, Meaning, RunView}
 use Rattle.pp_trace.specs.declared.Make.{Make}
 use Rattle.pp_trace.specs.Grammar.{bad}
-use Rattle.pp_trace.specs.Text.{count_all, is_full, is_lost}
 use Rattle.pp_devices.specs.declared.ways.Way.{Way}
 use Rattle.pp_devices.specs.declared.ways.Way.TheVariants as way
 use Rattle.pp_devices.specs.Devices.{Device, WasUnread, WasTooLong}
 use Rattle.pp_words.specs.declared.Settings.{Settings}
 use Rattle.pp_words.specs.declared.Kind.TheVariants as kind
+use Rattle.pp_programs.specs.Causes.{WasSpared}
 use Rattle.pp_running.specs.Run.{IsRunOf}
 use Rattle.pp_replay.specs.Replay.{HasBadLine, meaning_of, sizes_of}
 
@@ -30,11 +28,6 @@ pub record IsChosen (meaning : Meaning) (sizes : MapSizes) (settings : Settings)
       → IsRunOf (meaning_of settings.map) (sizes_of settings) settings.races opened lists answers run
   pub live : (n : ℕ) → n ≤ meaning.live n
 
--- no read failed, and with a made trace nothing was read
-pub record WasSpared (make : Option Make) (before after : Device) : Type 0 where
-  pub unfailed : after.faults ≡ before.faults
-  pub unread : (m : Make) → make ≡ Some m → after ≡ before
-
 -- reading the trace, or making it, ended in this way without calls
 abbrev pub HasNoCalls : Way → Option Make → ℕ → Device → Device → Type 0
 HasNoCalls (way.BadLine line why) make callers before after = (make ≡ None) × HasBadLine callers line why before after
@@ -43,26 +36,8 @@ HasNoCalls way.TooLong make callers before after = (make ≡ None) × WasTooLong
 HasNoCalls way.NoMemory make callers before after = WasSpared make before after
 HasNoCalls _ make callers before after = ⊥
 
--- printing this text ended in this way
-abbrev pub IsFinished : Way → Device → Device → List (List Answer) → List ℕ → Type 0
-IsFinished way.Answered before after answers text =
-    Appends before.bytes after.bytes text × (after.faults ≡ before.faults)
-    × (count_all is_full answers ≡ 0) × (count_all is_lost answers ≡ 0)
-IsFinished (way.Partly full lost) before after answers text =
-    Appends before.bytes after.bytes text × (after.faults ≡ before.faults)
-    × (count_all is_full answers ≡ full) × (count_all is_lost answers ≡ lost) × (0 < full + lost)
-IsFinished way.Unwritten before after answers text = Rose before.faults after.faults × GrewByPrefix before.bytes after.bytes text
-IsFinished way.NoMemory before after answers text = after ≡ before
-IsFinished _ before after answers text = ⊥
-
 -- parsing these bytes ended in this way without calls
 abbrev pub HasBadTrace : List ℕ → ℕ → Way → Type 0
 HasBadTrace bytes callers (way.BadLine line why) = bad bytes callers ≡ Some (record { line = line; why = why })
 HasBadTrace bytes callers way.NoMemory = ⊤
 HasBadTrace bytes callers _ = ⊥
-
--- the way of a replay that printed everything, with so many full and lost lines
-abbrev pub IsWayOf : ℕ → ℕ → Way → Type 0
-IsWayOf full lost way.Answered = (full ≡ 0) × (lost ≡ 0)
-IsWayOf full lost (way.Partly f l) = (f ≡ full) × (l ≡ lost) × (0 < full + lost)
-IsWayOf full lost _ = ⊥

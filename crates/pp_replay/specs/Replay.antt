@@ -26,6 +26,7 @@ use Rattle.pp_words.specs.declared.Kind.{Kind}
 use Rattle.pp_words.specs.declared.Kind.TheVariants as kind
 use Rattle.pp_words.specs.Words.{settings_of}
 use Rattle.pp_model.specs.Calls.{inserts}
+use Rattle.pp_programs.specs.Causes.{IsReading, HadNoMemory}
 use Rattle.pp_running.specs.Run.{IsRunOf}
 
 -- what contracts see of an ending: its status, the callers' answers, and the run that was closed
@@ -131,14 +132,6 @@ pub record IsCut (words : List (List ℕ)) (before after : World) (answers : Lis
 
 -- ---- what a refused replay says
 
--- the words say settings under which the source is read; reading came to this, and the sink is as it was
-pub record IsReading (words : List (List ℕ)) (before after : World) (Came : Settings → Type 0) : Type 0 where
-  pub settings : Settings
-  pub said_by : settings_of words ≡ Some settings
-  pub reads : settings.make ≡ None
-  pub came : Came settings
-  pub quiet : after.sink ≡ before.sink
-
 -- no read failed, and a line of the trace is bad; this is the first one, with its cause
 pub record HasBadLine (callers line : ℕ) (why : Why) (before after : Device) : Type 0 where
   pub bytes : List ℕ
@@ -146,13 +139,6 @@ pub record HasBadLine (callers line : ℕ) (why : Why) (before after : Device) :
   pub unfailed : after.faults ≡ before.faults
   pub within : length bytes ≤ 16777216
   pub first : bad bytes callers ≡ Some (record { line = line; why = why })
-
--- there was no memory: nothing was written, no read failed, and with a made trace nothing was read
-pub record HadNoMemory (words : List (List ℕ)) (before after : World) : Type 0 where
-  pub quiet : after.sink ≡ before.sink
-  pub unfailed : after.source.faults ≡ before.source.faults
-  pub unread : (settings : Settings) (make : Make) → settings_of words ≡ Some settings → settings.make ≡ Some make
-      → after.source ≡ before.source
 
 -- ---- the ending
 

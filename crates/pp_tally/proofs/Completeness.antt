@@ -5,7 +5,7 @@ use Rattle.pp_devices.specs.declared.ways.Way.{Way}
 use Rattle.pp_devices.specs.declared.ways.Way.TheVariants as way
 use Rattle.pp_devices.specs.Devices.{World}
 use Rattle.pp_devices.specs.Ways.{status_of}
-use Rattle.pp_replay.proofs.Completeness.{gave_part}
+use Rattle.pp_programs.proofs.Given.{gave_part}
 use Rattle.pp_tally.specs.Tally.{TallyView, Cause, IsGood, IsAnswered}
 
 module _ (words : List (List ℕ)) (before after : World) (tally : TallyView) (good : IsGood words before after) where

@@ -1,18 +1,18 @@
 -- How printing ends, and what that makes of a tally.
 use Rattle.std.proofs.Common.{◌≡◌, ℕ, ◌*◌, ◌≤◌, List, ◌++◌, length, replicate, get_or, refl, sym, ap, ◌∙◌, subst, arith}
-use Rattle.std.specs.Prelude.{Bool, true, false, Option, Some, None, is_some}
-use Rattle.std.proofs.lemmas.Bool.{true≢false}
+use Rattle.std.specs.Prelude.{Some}
 use Rattle.pp_devices.specs.declared.ways.Way.{Way}
 use Rattle.pp_devices.specs.declared.ways.Way.TheVariants as way
-use Rattle.pp_devices.specs.Devices.{Device, World, world}
+use Rattle.pp_devices.specs.Devices.{Device, world}
 use Rattle.pp_model.specs.declared.Answer.{Answer}
 use Rattle.pp_model.specs.Calls.{inserts}
 use Rattle.pp_model.specs.History.{contents_of}
 use Rattle.pp_model.specs.Lists.{times}
 use Rattle.pp_model.specs.Pass.{RunView}
-use Rattle.pp_trace.specs.declared.Make.{Make}
 use Rattle.pp_words.specs.declared.Settings.{Settings}
-use Rattle.pp_words.specs.Words.{settings_of}
+use Rattle.pp_programs.specs.Causes.{Says}
+use Rattle.pp_programs.specs.Printed.{IsFinished}
+use Rattle.pp_programs.proofs.Causes.{no_memory_read}
 use Rattle.pp_pieces.specs.Claims.{all_claims}
 use Rattle.pp_pieces.specs.Counts.{Counted}
 use Rattle.pp_pieces.specs.Pieces.{pieces_of}
@@ -20,34 +20,16 @@ use Rattle.pp_claims.specs.Claimed.{AreOwned, AreCounted}
 use Rattle.pp_claims.proofs.Lists.{list_at, claims_inserts}
 use Rattle.pp_claims.proofs.Owned.{none_counted}
 use Rattle.pp_replay.specs.Replay.{IsRunUnder, meaning_of, share_of}
-use Rattle.pp_tally.specs.Parts.{HasNoBytes, IsFinished}
-use Rattle.pp_tally.specs.Tally.{TallyView, tally_view, Cause, Says, WasRead, IsTally}
+use Rattle.pp_tally.specs.Parts.{HasNoBytes}
+use Rattle.pp_tally.specs.Tally.{TallyView, tally_view, Cause, WasRead, IsTally}
 use Rattle.pp_tally.specs.Text.{head_text, values_text, tally_text}
 use Rattle.pp_tally.proofs.Values.{values_same}
 
--- whether a made trace is asked for
-pub not_made : (make : Option Make) (b : Bool) → b ≡ is_some make → b ≡ false → make ≡ None
-not_made None b is none = refl
-not_made (Some m) b is none = absurd (true≢false (sym is ∙ none))
-
-made : (make : Option Make) (b : Bool) → b ≡ is_some make → b ≡ true → make ≡ None → ⊥
-made None b is one none = true≢false (sym one ∙ is)
-made (Some m) b is one none = cc
-
--- where one is, the words are refused
-pub refused_made : (words : List (List ℕ)) (settings : Settings) (w : Way) (world_is : World) (tally : TallyView) (b : Bool)
-    → settings_of words ≡ Some settings → b ≡ is_some settings.make → b ≡ true → w ≡ way.BadWords
-    → Cause w words world_is world_is tally
-refused_made words settings w world_is tally b said_by is one ended = rw ended (record {
-  none = λ s says. let same : s ≡ settings = let own = says.settings in cc in
-      made settings.make b is one (ap (λ x. x.make) (sym same) ∙ says.reads);
-  untouched = record { source = refl; sink = refl };
-})
-
 -- want of memory once the bytes were read
-pub refused : (words : List (List ℕ)) (read now was : Device) (bytes : List ℕ) (tally : TallyView) (w : Way) → WasRead read now bytes
-    → w ≡ way.NoMemory → Cause w words (world read was) (world now was) tally
-refused words read now was bytes tally w reading is = rw is (record { quiet = refl; unfailed = reading.unfailed })
+pub refused : (words : List (List ℕ)) (settings : Settings) (read now was : Device) (bytes : List ℕ) (tally : TallyView) (w : Way)
+    → Says words settings → WasRead read now bytes → w ≡ way.NoMemory → Cause w words (world read was) (world now was) tally
+refused words settings read now was bytes tally w said reading is =
+    rw is (no_memory_read words settings (world read was) (world now was) said refl reading.unfailed)
 
 -- the source gives no bytes
 pub unread : (words : List (List ℕ)) (settings : Settings) (read now was : Device) (tally : TallyView) (w : Way) → Says words settings
@@ -56,7 +38,8 @@ unread words settings read now was tally way.Unread said none =
     record { settings = settings; said_by = said; came = none; quiet = refl }
 unread words settings read now was tally way.TooLong said none =
     record { settings = settings; said_by = said; came = none; quiet = refl }
-unread words settings read now was tally way.NoMemory said none = record { quiet = refl; unfailed = none }
+unread words settings read now was tally way.NoMemory said none =
+    no_memory_read words settings (world read was) (world now was) said refl none
 unread words settings read now was tally way.Answered said none = absurd none
 unread words settings read now was tally (way.Partly full lost) said none = absurd none
 unread words settings read now was tally way.BadWords said none = absurd none
@@ -99,12 +82,12 @@ module _ (words : List (List ℕ)) (settings : Settings) (bytes : List ℕ) (ans
     }
 
     -- a run of claims whose text was printed in a way is the cause of a tally's ending in that way
-    pub cause_of : (w : Way) → IsFinished w was after (tally_text bytes)
+    pub cause_of : (w : Way) → IsFinished w was after 0 0 (tally_text bytes)
         → Cause w words (world read was) (world now after) (tally_view answers counts rest (Some run))
     cause_of way.Answered is = record { is_tally = tallied; written = is.0; unfailed = is.1 }
     cause_of way.Unwritten is = record { is_tally = tallied; rose = is.0; written = is.1 }
-    cause_of way.NoMemory is = record { quiet = is; unfailed = reading.unfailed }
-    cause_of (way.Partly full lost) is = absurd is
+    cause_of way.NoMemory is = no_memory_read words settings (world read was) (world now after) said_by is reading.unfailed
+    cause_of (way.Partly full lost) is = absurd (omega (arith, is.2, is.3, is.4))
     cause_of way.BadWords is = absurd is
     cause_of (way.BadLine line why) is = absurd is
     cause_of way.Unread is = absurd is

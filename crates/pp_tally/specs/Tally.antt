@@ -4,14 +4,14 @@ use Rattle.std.specs.Io.KnownBytes.{Appends}
 use Rattle.pp_outside.specs.Outside.{Rose, WasAll, GrewByPrefix}
 use Rattle.pp_devices.specs.declared.ways.Way.{Way}
 use Rattle.pp_devices.specs.declared.ways.Way.TheVariants as way
-use Rattle.pp_devices.specs.Devices.{Device, World, WasUnread, WasTooLong, Untouched}
+use Rattle.pp_devices.specs.Devices.{Device, World, WasUnread, WasTooLong}
 use Rattle.pp_devices.specs.Ways.{status_of, line_of}
 use Rattle.pp_model.specs.declared.Answer.{Answer}
 use Rattle.pp_model.specs.History.{contents_of}
 use Rattle.pp_model.specs.Pass.{RunView}
 use Rattle.pp_trace.specs.Text.{count_all, is_full}
 use Rattle.pp_words.specs.declared.Settings.{Settings}
-use Rattle.pp_words.specs.Words.{settings_of}
+use Rattle.pp_programs.specs.Causes.{Says, IsReading, IsRefused, HadNoMemory}
 use Rattle.pp_pieces.specs.Claims.{all_claims}
 use Rattle.pp_pieces.specs.Pieces.{pieces_of}
 use Rattle.pp_claims.specs.Claimed.{AreOwned, AreCounted}
@@ -33,11 +33,6 @@ tally_view answers counts rest run = record { answers = answers; counts = counts
 pub record TalliedView : Type 0 where
   pub status : ℕ
   pub tally : TallyView
-
--- the words say these settings, and ask for no made trace
-pub record Says (words : List (List ℕ)) (s : Settings) : Type 0 where
-  pub settings : settings_of words ≡ Some s
-  pub reads : s.make ≡ None
 
 -- the source was read to its end, no read failed, and these are its bytes
 pub record WasRead (before after : Device) (bytes : List ℕ) : Type 0 where
@@ -78,35 +73,16 @@ pub record IsCut (words : List (List ℕ)) (before after : World) (tally : Tally
   pub rose : Rose before.sink.faults after.sink.faults
   pub written : GrewByPrefix before.sink.bytes after.sink.bytes (tally_text is_tally.bytes)
 
--- ---- what a refused one says
-
--- the words say settings; reading came to this, and the sink is as it was
-pub record IsReading (words : List (List ℕ)) (before after : World) (Came : Type 0) : Type 0 where
-  pub settings : Settings
-  pub said_by : Says words settings
-  pub came : Came
-  pub quiet : after.sink ≡ before.sink
-
--- the words say no settings, or ask for a made trace, and nothing was read or written
-pub record IsRefused (words : List (List ℕ)) (before after : World) : Type 0 where
-  pub none : (s : Settings) → Says words s → ⊥
-  pub untouched : Untouched before after
-
--- there was no memory: nothing was written, and no read failed
-pub record HadNoMemory (before after : World) : Type 0 where
-  pub quiet : after.sink ≡ before.sink
-  pub unfailed : after.source.faults ≡ before.source.faults
-
 -- ---- the ending
 
 -- why a tally ended in this way
 abbrev pub Cause : Way → List (List ℕ) → World → World → TallyView → Type 0
 Cause way.Answered words before after tally = IsWhole words before after tally
 Cause way.BadWords words before after tally = IsRefused words before after
-Cause way.Unread words before after tally = IsReading words before after (WasUnread before.source after.source)
-Cause way.TooLong words before after tally = IsReading words before after (WasTooLong before.source after.source)
+Cause way.Unread words before after tally = IsReading words before after (λ s. WasUnread before.source after.source)
+Cause way.TooLong words before after tally = IsReading words before after (λ s. WasTooLong before.source after.source)
 Cause way.Unwritten words before after tally = IsCut words before after tally
-Cause way.NoMemory words before after tally = HadNoMemory before after
+Cause way.NoMemory words before after tally = HadNoMemory words before after
 Cause _ words before after tally = ⊥
 
 -- The ending of a tally: it ended in one way, by its cause, with its status, and its line was told.

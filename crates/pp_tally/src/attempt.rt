@@ -3,12 +3,13 @@
 ghost use Rattle.std.specs.Prelude.{◌≡◌, ◌≤◌, ℕ, List, map, [], length, None, Some, IfOk, IfErr, string_bytes};
 ghost use Rattle.pp_words.specs.declared.Kind.TheVariants as Kind;
 ghost use Rattle.pp_words.specs.Words.{settings_of, InRange};
+ghost use Rattle.pp_programs.specs.Causes.{Says};
 ghost use Rattle.pp_replay.specs.declared.ending.Kept.TheVariants as Kept;
 ghost use Rattle.pp_replay.specs.Parts.{IsTable};
 ghost use Rattle.pp_replay.specs.View.{kept_run};
 ghost use Rattle.pp_devices.specs.Devices.{Device, device, world};
 ghost use Rattle.pp_tally.specs.Parts.{HasNoBytes};
-ghost use Rattle.pp_tally.specs.Tally.{Cause, Says, WasRead, tally_view};
+ghost use Rattle.pp_tally.specs.Tally.{Cause, WasRead, tally_view};
 
 use crate::showing::{no_counts, run_shown};
 use pp_buckets::Buckets;

@@ -1,15 +1,15 @@
 //! The counts of an input, printed.
 
-ghost use Rattle.std.specs.Prelude.{◌≡◌, ◌++◌, length, get_or, false, []};
+ghost use Rattle.std.specs.Prelude.{◌≡◌, ◌++◌, length, get_or, false};
 ghost use Rattle.pp_trace.specs.Printing.{Puts};
 ghost use Rattle.pp_devices.specs.Devices.{device};
-ghost use Rattle.pp_replay.specs.Printed.{IsPrinted};
-ghost use Rattle.pp_tally.specs.Parts.{IsFinished};
+ghost use Rattle.pp_programs.specs.Printed.{IsFinished};
 ghost use Rattle.pp_tally.specs.Text.{head_text, value_line, values_text};
 
 use crate::text;
 use pp_devices::Way;
 use pp_outside::{Failed, Sink};
+use pp_programs::end;
 use pp_trace::Printer;
 use std::alloc::Global;
 
@@ -18,31 +18,13 @@ use std::alloc::Global;
 pub fn finish<K: Sink>(alloc: Global, sink: &mut K, bytes: usize, pieces: u32, total: &[u32]) -> Way
     requires all { length total.now ≡ 256 }
     ensures { IsFinished result (device (K.written sink.old) (K.faults sink.old)) (device (K.written sink.new) (K.faults sink.new))
-        (head_text bytes pieces ++ values_text (λ value. get_or total.now value 0) 256) }
+        0 0 (head_text bytes pieces ++ values_text (λ value. get_or total.now value 0) 256) }
 {
-    let Ok(printer) = Printer::new(alloc) else {
+    let Ok(mut printer) = Printer::new(alloc) else {
         return Way::NoMemory;
     };
-    match print(printer, sink, bytes, pieces, total) {
-        Ok(()) => Way::Answered,
-        Err(_) => Way::Unwritten,
-    }
-}
-
-fn print<K: Sink>(
-    mut printer: Printer,
-    sink: &mut K,
-    bytes: usize,
-    pieces: u32,
-    total: &[u32],
-) -> Result<(), Failed>
-    requires empty { printer ≡ record { waits = []; failed = false } }
-    requires all { length total.now ≡ 256 }
-    ensures { IsPrinted (K.written sink.old) (K.faults sink.old) (K.written sink.new) (K.faults sink.new)
-        (head_text bytes pieces ++ values_text (λ value. get_or total.now value 0) 256) result }
-{
-    print_text(&mut printer, sink, bytes, pieces, total)?;
-    printer.end(sink)
+    let printed = print_text(&mut printer, sink, bytes, pieces, total);
+    end(printer, sink, printed, 0, 0)
 }
 
 fn print_text<K: Sink>(

@@ -6,12 +6,13 @@ ghost use Rattle.pp_devices.specs.declared.ways.Way.TheVariants as Way;
 ghost use Rattle.pp_model.specs.Lists.{AtEach};
 ghost use Rattle.pp_model.specs.MapCalls.{IsClean};
 ghost use Rattle.pp_pieces.specs.Pieces.{pieces_of};
+ghost use Rattle.pp_programs.specs.Causes.{Says};
 ghost use Rattle.pp_replay.specs.Parts.{IsChosen};
 ghost use Rattle.pp_replay.specs.Replay.{share_of, sizes_of};
 ghost use Rattle.pp_replay.specs.View.{shown_run};
 ghost use Rattle.pp_running.specs.Run.{IsOpened};
 ghost use Rattle.pp_words.specs.Words.{InRange};
-ghost use Rattle.pp_tally.specs.Tally.{Cause, Says, WasRead, tally_view};
+ghost use Rattle.pp_tally.specs.Tally.{Cause, WasRead, tally_view};
 
 use crate::printing::finish;
 use pp_claims::claiming::{Counts, claim_on};

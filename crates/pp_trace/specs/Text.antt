@@ -32,14 +32,14 @@ abbrev pub answer_line : ℕ → ℕ → Answer → List ℕ
 answer_line caller number a = decimal caller ++ codes " " ++ decimal number ++ codes " " ++ answer_text a ++ codes "\n"
 
 -- the lines of a caller's answers, numbered from n on
-abbrev pub caller_text : ℕ → ℕ → List Answer → List ℕ
-caller_text caller n [] = []
-caller_text caller n (a ∷ answers) = answer_line caller n a ++ caller_text caller (n + 1) answers
+abbrev pub caller_text : {A : Type 0} → (ℕ → ℕ → A → List ℕ) → ℕ → ℕ → List A → List ℕ
+caller_text line caller n [] = []
+caller_text line caller n (a ∷ answers) = line caller n a ++ caller_text line caller (n + 1) answers
 
 -- those of all callers, from caller c on
-abbrev pub callers_text : ℕ → List (List Answer) → List ℕ
-callers_text c [] = []
-callers_text c (answers ∷ rest) = caller_text c 1 answers ++ callers_text (c + 1) rest
+abbrev pub callers_text : {A : Type 0} → (ℕ → ℕ → A → List ℕ) → ℕ → List (List A) → List ℕ
+callers_text line c [] = []
+callers_text line c (answers ∷ rest) = caller_text line c 1 answers ++ callers_text line (c + 1) rest
 
 -- the line of a pair
 abbrev pub pair_line : Pair → List ℕ
@@ -55,7 +55,7 @@ contents_text pairs = counted_line (codes "contents ") (length pairs) ++ flat_ma
 
 -- the output of a trace that was read
 abbrev pub out : List (List Answer) → List Pair → List ℕ
-out answers contents = callers_text 0 answers ++ contents_text contents
+out answers contents = callers_text answer_line 0 answers ++ contents_text contents
 
 abbrev pub is_added : Answer → Bool
 is_added (Said Added) = true
@@ -86,7 +86,7 @@ is_lost (answer.Lost turns) = true
 is_lost _ = false
 
 -- how many answers of all callers a test takes
-abbrev pub count_all : (Answer → Bool) → List (List Answer) → ℕ
+abbrev pub count_all : {A : Type 0} → (A → Bool) → List (List A) → ℕ
 count_all test answers = sum_by (count_by test) answers
 
 -- how many answers of all callers there are of each kind

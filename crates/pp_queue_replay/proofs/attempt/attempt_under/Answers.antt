@@ -1,6 +1,6 @@
-use Rattle.std.proofs.Common.{◌≡◌}
-use Rattle.pp_queue_replay.specs.Replay.{Says}
-use Rattle.pp_queue_replay.proofs.Finishes.{unread, not_made}
+use Rattle.pp_programs.proofs.Causes.{says}
+use Rattle.pp_queue_replay.specs.Replay.{and_list}
+use Rattle.pp_queue_replay.proofs.Finishes.{unread}
 use Rattle.pp_queue_replay.proofs.Readings.{trace_calls}
 use Rattle.pp_queue_replay.proofs.attempt.attempt_under.Goals as goal
 
@@ -9,6 +9,5 @@ run_queue-requires-clause-calls g c κs within = trace_calls c.in-Ok.ensures.cal
 
 pub returns-in-Err : goal.returns-in-Err
 returns-in-Err g c = λ words said_by.
-    let none : c.args.settings.make ≡ _ = not_made c.args.settings.make _ c.is_some.ensures c.if-is_some.false in
-    let said : Says words c.args.settings = record { settings = said_by; reads = none } in
+    let said = says (and_list words) c.args.settings said_by _ c.is_some.ensures c.if-is_some.false in
     rw c.without_run-in-Err.ensures.0 (unread words c.args.settings _ _ _ _ _ c.in-Err.way said c.in-Err.ensures.none)

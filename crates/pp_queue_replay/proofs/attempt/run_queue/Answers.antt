@@ -26,11 +26,11 @@ finish-way-requires g c = let z = queue_sizes c.args.settings.callers c.args.set
 
 pub returns-in_default : goal.returns-in_default
 returns-in_default g c = λ words before after said calls.
-    refused words c.args.settings (map (λ v. v.items) c.args.lists.items) before after _ _ _ _ calls c.without_run.ensures.0
+    refused words c.args.settings (map (λ v. v.items) c.args.lists.items) before after _ _ _ _ said calls c.without_run.ensures.0
 
 pub returns-in_default-run_on : goal.returns-in_default-run_on
 returns-in_default-run_on g c = λ words before after said calls.
-    refused words c.args.settings (map (λ v. v.items) c.args.lists.items) before after _ _ _ _ calls
+    refused words c.args.settings (map (λ v. v.items) c.args.lists.items) before after _ _ _ _ said calls
     c.without_run-in_default-run_on.ensures.0
 
 pub returns : goal.returns

@@ -2,7 +2,7 @@ use Rattle.std.proofs.Common.{refl}
 use Rattle.std.proofs.lemmas.Result.{err_from_is_err_and}
 use Rattle.pp_trace.specs.Text.{contents_text}
 use Rattle.pp_trace.proofs.Buffered.{Puts-then}
-use Rattle.pp_replay.proofs.PrintedTexts.{Puts-short}
+use Rattle.pp_programs.proofs.PrintedTexts.{Puts-short}
 use Rattle.pp_replay.proofs.printing.print_trace.Goals as goal
 
 pub returns-in_err-print_answers : goal.returns-in_err-print_answers

@@ -19,11 +19,12 @@ run_shown-shown-requires-clause-shares g c κs within = rw c.in-Ok-from_array.en
     (plain_shares c.args.settings c.requires.within c.requires.plain c.in-Ok.pass c.in-Ok.ensures.share)
 
 pub returns-in_default : goal.returns-in_default
-returns-in_default g c = λ words before after said_by read. refused words before after _ c.args.bytes.now _ _ read c.without_run.ensures.0
+returns-in_default g c = λ words before after said_by read.
+    refused words c.args.settings before after _ c.args.bytes.now _ _ said_by read c.without_run.ensures.0
 
 pub returns-in_default-from_array : goal.returns-in_default-from_array
 returns-in_default-from_array g c = λ words before after said_by read.
-    refused words before after _ c.args.bytes.now _ _ read c.without_run-in_default-from_array.ensures.0
+    refused words c.args.settings before after _ c.args.bytes.now _ _ said_by read c.without_run-in_default-from_array.ensures.0
 
 pub returns : goal.returns
 returns g c = λ words before after said_by read. rw c.kept_plain.ensures (c.run_shown-shown.ensures words before after said_by read)

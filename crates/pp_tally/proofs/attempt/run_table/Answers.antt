@@ -30,7 +30,8 @@ pub run_shown-shown-requires-clause-room : goal.run_shown-shown-requires-clause-
 run_shown-shown-requires-clause-room g c κs within = λ k p at. omega (arith, c.requires.short)
 
 pub returns-in_default : goal.returns-in_default
-returns-in_default g c = λ words before after said_by read. refused words before after _ c.args.bytes.now _ _ read c.without_run.ensures.0
+returns-in_default g c = λ words before after said_by read.
+    refused words c.args.settings before after _ c.args.bytes.now _ _ said_by read c.without_run.ensures.0
 
 pub returns : goal.returns
 returns g c = λ words before after said_by read. rw c.kept_table.ensures (c.run_shown-shown.ensures words before after said_by read)

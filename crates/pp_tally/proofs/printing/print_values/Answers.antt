@@ -1,7 +1,7 @@
 use Rattle.std.proofs.Common.{◌≡◌, ◌+◌, ◌-◌, get_or, refl, arith, Ok, Err}
 use Rattle.std.proofs.lemmas.Result.{err_from_is_err_and}
 use Rattle.pp_trace.proofs.Buffered.{Puts-none}
-use Rattle.pp_replay.proofs.PrintedTexts.{Puts-more, Puts-short}
+use Rattle.pp_programs.proofs.PrintedTexts.{Puts-more, Puts-short}
 use Rattle.pp_tally.proofs.Values.{values_more, values_whole}
 use Rattle.pp_tally.proofs.printing.print_values.Goals as goal
 

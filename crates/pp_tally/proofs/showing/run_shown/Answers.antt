@@ -16,7 +16,7 @@ finish-way-requires g c = record { all = ap length c.deref.ensures.value ∙ c.i
 
 pub returns-in_default : goal.returns-in_default
 returns-in_default g c = λ words before after said_by read.
-    refused words before after _ c.args.bytes.now _ _ read c.without_closing.ensures.0
+    refused words c.args.settings before after _ c.args.bytes.now _ _ said_by read c.without_closing.ensures.0
 
 pub returns : goal.returns
 returns g c = λ words before after said_by read.

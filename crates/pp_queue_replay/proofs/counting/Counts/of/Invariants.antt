@@ -1,5 +1,6 @@
 use Rattle.std.proofs.Common.{◌≡◌, map, take}
-use Rattle.pp_queue_replay.specs.Text.{count_all, is_full, is_lost}
+use Rattle.pp_trace.specs.Text.{count_all}
+use Rattle.pp_queue_replay.specs.Text.{is_full, is_lost}
 use Rattle.pp_queue_replay.proofs.counting.Counts.of.Given as goal
 
 abbrev pub invariant-loop-answers : goal.invariant-loop-answers

@@ -1,11 +1,11 @@
 use Rattle.std.proofs.Common.{arith, ◌+◌, length, refl, ap, ◌∙◌, Ok, Err}
+use Rattle.std.specs.Prelude.{option_map}
 use Rattle.std.proofs.lemmas.List.{length-map}
 use Rattle.std.proofs.lemmas.Result.{err_from_is_err_and}
-use Rattle.pp_queue_replay.proofs.Lists.{at_mapped}
-use Rattle.std.proofs.lemmas.Option.{slice_get_read}
+use Rattle.std.proofs.lemmas.Option.{slice_get_read, slice_get-map}
 use Rattle.pp_trace.proofs.Buffered.{Puts-none}
-use Rattle.pp_queue_replay.proofs.PrintedTexts.{Puts-more, Puts-short, callers_more, callers_whole}
-use Rattle.pp_queue_replay.proofs.printing.print_answers.Goals as goal
+use Rattle.pp_programs.proofs.PrintedTexts.{Puts-more, Puts-short, callers_more, callers_whole}
+use Rattle.pp_programs.proofs.lines.print_answers.Goals as goal
 
 pub loop-given-init : goal.loop-given-init
 loop-given-init g c = record { caller = refl; printed = Puts-none _ _ _ _ _ c.requires.whole }
@@ -15,7 +15,7 @@ print_caller-requires-clause-short g c =
     let here = slice_get_read c.args.answers.now (length c.args.answers.now) c.loop-given.given-index c.given-item.result refl
     c.loop-given-test.true c.given-item.is in
     let short = c.requires.short.each c.loop-given.given-index c.given-item.result.items
-    (at_mapped (λ v. v.items) c.args.answers.now c.loop-given.given-index c.given-item.result here) in
+    (slice_get-map (λ v. v.items) c.args.answers.now c.loop-given.given-index ∙ ap (option_map (λ v. v.items)) here) in
     omega (arith, short, ap length c.deref.ensures.value)
 
 pub returns-in_err-print_caller : goal.returns-in_err-print_caller
@@ -24,9 +24,10 @@ returns-in_err-print_caller g c =
     let answers = c.args.answers.now in
     let i = c.loop-given.given-index in
     let line = c.deref.ensures.value ∙ ap (λ v. v.items) c.given-item.is in
-    rw p.1 (Puts-short _ _ _ p.0 (callers_whole (i + 1) answers)
+    rw p.1 (Puts-short _ _ _ p.0 (callers_whole g.L.AnswerLines.line (i + 1) answers)
     (Puts-more _ _ _ (Err p.0)
-    (callers_more c.loop-given.caller answers i c.given-item.result c.loop-given-test.true c.loop-given.invariant.caller)
+    (callers_more g.L.AnswerLines.line c.loop-given.caller answers i c.given-item.result
+    c.loop-given-test.true c.loop-given.invariant.caller)
     c.loop-given.invariant.printed (rw line at c.in_err-print_caller.ensures)))
 
 pub loop-given-preserved : goal.loop-given-preserved
@@ -41,7 +42,7 @@ loop-given-preserved g c =
         length-map c.args.answers.now (λ v. v.items),
       );
       printed = Puts-more _ _ _ (Ok tt)
-          (callers_more c.loop-given.caller c.args.answers.now c.loop-given.given-index c.given-item.result
+          (callers_more g.L.AnswerLines.line c.loop-given.caller c.args.answers.now c.loop-given.given-index c.given-item.result
           c.loop-given-test.true c.loop-given.invariant.caller)
           c.loop-given.invariant.printed (rw line at c.in_ok-print_caller.ensures);
     }
