@@ -15,15 +15,15 @@ use std::thread::{Threads, for_each_mut};
 
 /// What one caller has to do, and its answers. The answers have room for one a call.
 #[derive(Drop)]
-pub struct Job<P> {
+pub struct Job<P, C, A> {
     /// The caller's number.
     pub caller: u32,
     /// Its pass.
     pub pass: P,
     /// Its calls, in order.
-    pub calls: Vec<Call>,
+    pub calls: Vec<C>,
     /// One answer for each call that was made.
-    pub answers: Vec<Answer>,
+    pub answers: Vec<A>,
 }
 
 /// Runs the jobs in threads, on halves of the slice. Each job makes its calls in order, each between `before` and
@@ -34,7 +34,7 @@ pub struct Job<P> {
 pub fn run<R: Threads + Sync, M: MapCalls + Sync, G: Gate + Sync>(
     rt: &R,
     map: &M,
-    jobs: &mut [Job<M::Pass>],
+    jobs: &mut [Job<M::Pass, Call, Answer>],
     races: u64,
     gate: &G,
 )
@@ -47,7 +47,7 @@ where
         × (job.caller ≡ was.caller) × (job.calls.items ≡ was.calls.items)
         × AnswersCalls M.meaning (M.sizes map.now) races (M.pass_view was.pass) was.calls.items job.answers.items (M.pass_view job.pass)) }
 {
-    let make = |_: usize, job: &mut Job<M::Pass>|
+    let make = |_: usize, job: &mut Job<M::Pass, Call, Answer>|
         requires { (1 ≤ races) × M.Belongs map.now job.now.pass × M.Idle job.now.pass
             × MayMake (M.pass_view job.now.pass) job.now.calls.items job.now.answers.items (vec_capacity job.now.answers) }
         ensures { M.Belongs map.entry.now job.exit.now.pass × M.Idle job.exit.now.pass
@@ -58,7 +58,12 @@ where
     for_each_mut(rt, jobs, 64, &make);
 }
 
-fn run_one<M: MapCalls, G: Gate>(map: &M, job: &mut Job<M::Pass>, races: u64, gate: &G)
+fn run_one<M: MapCalls, G: Gate>(
+    map: &M,
+    job: &mut Job<M::Pass, Call, Answer>,
+    races: u64,
+    gate: &G,
+)
     requires belongs { M.Belongs map.now job.old.pass }
     requires idle { M.Idle job.old.pass }
     requires may { MayMake (M.pass_view job.old.pass) job.old.calls.items job.old.answers.items (vec_capacity job.old.answers) }

@@ -1,4 +1,5 @@
-//! What the top calls of all programs share: their words, their printed answers and their ends.
+//! What the top calls of all programs share: their words, their printed answers and their ends. The programs take their words by `words`,
+//! print by `print_answers`, each with its own `AnswerLines`, and end by `end`.
 #![tactic(auto)]
 
 mod ending;

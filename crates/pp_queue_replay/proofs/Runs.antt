@@ -20,7 +20,7 @@ use Rattle.pp_queue.specs.Closings.{IsClosing, QueueCaller, QueueRun, caller_run
 use Rattle.pp_queue_replay.specs.Runs.{AnswersCalls, said_call, said_calls, IsOpened, IsCaller, IsRunOf, caller_list}
 use Rattle.pp_queue_replay.proofs.Chains.{mine_grown}
 use Rattle.pp_queue_replay.proofs.Changes.{change_at, in_changes}
-use Rattle.pp_queue_replay.proofs.Lists.{mapped_at, at_mapped}
+use Rattle.pp_running.proofs.Lists.{mapped_at, at_mapped}
 
 -- the callers' lists that these passes show
 abbrev pub lists_of : List QueuePassView → List (CallerList queue)

@@ -10,7 +10,6 @@ ghost use Rattle.pp_queue_replay.specs.Replay.{IsEnding, IsGood, IsAnswered};
 mod attempt;
 mod counting;
 mod ending;
-mod jobs;
 mod parsing;
 mod printing;
 mod running;

@@ -10,15 +10,19 @@ ghost use Rattle.pp_queue.specs.Passes.{IsReady, pass_seen};
 ghost use Rattle.pp_queue_replay.specs.Jobs.{MayMake, HasMade};
 ghost use Rattle.pp_queue_replay.specs.Runs.{AnswersCalls, IsOpened, IsRunOf};
 
-use crate::jobs::{Job, jobs_of, parts_of};
 use pp_base::Pass;
+use pp_callers::Job;
 use pp_model::lists::enter;
 use pp_model::{InsertFault, Lost, NoMemory};
 use pp_outside::Gate;
 use pp_queue::{Queue, QueueClosed, QueueShape};
 use pp_queues::calls::{QueueAnswer, QueueCall, QueueReply};
+use pp_running::jobs::{jobs_of, parts_of};
 use std::alloc::Global;
 use std::thread::{Threads, for_each_mut};
+
+/// What one caller has to do on a queue, and its answers.
+pub type QueueJob = Job<Pass<QueueShape>, QueueCall, QueueAnswer>;
 
 /// What a run gave: the callers' answers, and the closed queue.
 #[derive(Drop)]
@@ -63,7 +67,7 @@ pub fn run_on<R: Threads + Sync, G: Gate + Sync>(
 pub fn run<R: Threads + Sync, G: Gate + Sync>(
     rt: &R,
     queue: &Queue,
-    jobs: &mut [Job],
+    jobs: &mut [QueueJob],
     races: u64,
     gate: &G,
 )
@@ -71,14 +75,14 @@ pub fn run<R: Threads + Sync, G: Gate + Sync>(
     requires ready { AtEach jobs.old (λ k job. MayMake queue.now job (vec_capacity job.answers)) }
     ensures ran { AtBoth jobs.old jobs.new (λ was job. HasMade queue.now races was job) }
 {
-    let make = |_: usize, job: &mut Job|
+    let make = |_: usize, job: &mut QueueJob|
         requires { (1 ≤ races) × MayMake queue.now job.now (vec_capacity job.now.answers) }
         ensures { HasMade queue.entry.now races job.entry.now job.exit.now }
     { run_one(queue, job, races, gate) };
     for_each_mut(rt, jobs, 64, &make);
 }
 
-fn run_one<G: Gate>(queue: &Queue, job: &mut Job, races: u64, gate: &G)
+fn run_one<G: Gate>(queue: &Queue, job: &mut QueueJob, races: u64, gate: &G)
     requires may { MayMake queue.now job.old (vec_capacity job.old.answers) }
     requires races { 1 ≤ races }
     ensures made { HasMade queue.now races job.old job.new }

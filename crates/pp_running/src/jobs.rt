@@ -3,16 +3,16 @@
 ghost use Rattle.std.specs.Prelude.{◌≡◌, ◌≤◌, map, length, vec_capacity, [], ◌∷◌, ◌++◌, All, IfOk, OnOk};
 
 use pp_callers::Job;
-use pp_model::{Answer, Call, NoMemory};
+use pp_model::NoMemory;
 use std::alloc::Global;
 
 /// One job for each pass, which has the list at its position, and room for one answer a call. The callers are
 /// numbered from 0.
-pub fn jobs_of<P: Drop>(
+pub fn jobs_of<P: Drop, C: Drop, A: Drop>(
     alloc: Global,
     passes: Vec<P>,
-    lists: Vec<Vec<Call>>,
-) -> Result<Vec<Job<P>>, NoMemory>
+    lists: Vec<Vec<C>>,
+) -> Result<Vec<Job<P, C, A>>, NoMemory>
     requires { length lists.items ≡ length passes.items }
     ensures passes { IfOk result (λ jobs. map (λ job. job.pass) jobs.items ≡ passes.items) }
     ensures calls { IfOk result (λ jobs. map (λ job. job.calls) jobs.items ≡ lists.items) }
@@ -40,10 +40,10 @@ pub fn jobs_of<P: Drop>(
 }
 
 /// The passes and the answers of jobs.
-pub fn parts_of<P: Drop>(
+pub fn parts_of<P: Drop, C: Drop, A: Drop>(
     alloc: Global,
-    jobs: Vec<Job<P>>,
-) -> Result<(Vec<P>, Vec<Vec<Answer>>), NoMemory>
+    jobs: Vec<Job<P, C, A>>,
+) -> Result<(Vec<P>, Vec<Vec<A>>), NoMemory>
     ensures passes { IfOk result (λ parts. parts.0.items ≡ map (λ job. job.pass) jobs.items) }
     ensures answers { IfOk result (λ parts. parts.1.items ≡ map (λ job. job.answers) jobs.items) }
 {

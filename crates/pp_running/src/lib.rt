@@ -1,5 +1,5 @@
 //! A run: the calls of all callers on a map, each caller in a thread, and its closing. The layers above use `run_on`, over any map, and
-//! read what came of it from `Ran`.
+//! read what came of it from `Ran`; over other structures they make their callers' jobs by `jobs_of`.
 #![tactic(auto)]
 
 ghost use Rattle.std.specs.Prelude.{◌≡◌, ◌≤◌, map, length, IfOk};

@@ -4,7 +4,8 @@ use Rattle.std.proofs.lemmas.Option.{slice_get_within, get_or_from_slice_get}
 use Rattle.std.proofs.lemmas.List.{take_at}
 use Rattle.pp_running.proofs.Lists.{at_mapped}
 use Rattle.pp_running.proofs.Numbers.{few_live}
-use Rattle.pp_running.proofs.RunJobs.{pass_at, list_at, closes, runs}
+use Rattle.pp_running.proofs.JobsDone.{pass_at, list_at}
+use Rattle.pp_running.proofs.RunJobs.{closes, runs}
 use Rattle.pp_running.proofs.run_on.Goals as goal
 
 pub run-requires-clause-ready : goal.run-requires-clause-ready

@@ -3,7 +3,7 @@ use Rattle.pp_base.specs.Passes.{view}
 use Rattle.pp_queue.specs.Closings.{queue_run}
 use Rattle.pp_queue.specs.Passes.{pass_seen, queue_sizes}
 use Rattle.pp_queue_replay.proofs.Finishes.{refused, cause_of}
-use Rattle.pp_queue_replay.proofs.Lists.{mapped_at}
+use Rattle.pp_running.proofs.Lists.{mapped_at}
 use Rattle.pp_queue_replay.proofs.Starts.{opened_new, share_new, under, short}
 use Rattle.pp_queue_replay.proofs.attempt.run_queue.Goals as goal
 

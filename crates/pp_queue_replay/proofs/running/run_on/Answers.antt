@@ -7,7 +7,8 @@ use Rattle.pp_base.specs.Passes.{view}
 use Rattle.pp_queue.specs.Closings.{queue_run}
 use Rattle.pp_queue.specs.Passes.{IsReady, pass_seen}
 use Rattle.pp_queue_replay.specs.Jobs.{HasMade}
-use Rattle.pp_queue_replay.proofs.RunJobs.{pass_at, closes, runs, told}
+use Rattle.pp_running.proofs.JobsDone.{pass_at}
+use Rattle.pp_queue_replay.proofs.RunJobs.{closes, runs}
 use Rattle.pp_queue_replay.proofs.running.run_on.Goals as goal
 
 pub run-requires-clause-ready : goal.run-requires-clause-ready
@@ -15,7 +16,7 @@ run-requires-clause-ready g c κs within k x at =
     let jobs = c.in_ok-jobs.jobs.items in
     let here : slice_get jobs k ≡ Some x = ap (λ l. slice_get l k) (sym c.as_mut_slice.ensures.value) ∙ at in
     let low : k < length jobs = slice_get_within jobs k x here in
-    let pass = pass_at (λ job. job.pass) c.args.passes.items c.args.lists.items jobs c.in_ok-jobs.ensures.passes c.in_ok-jobs.ensures.calls
+    let pass = pass_at c.args.passes.items c.args.lists.items jobs c.in_ok-jobs.ensures.passes c.in_ok-jobs.ensures.calls
     k x here in
     record {
       ready = (c.requires.passes k x.pass pass).0;
@@ -28,12 +29,12 @@ close-requires-clause-ready g c k x at =
     let now = c.run.new.jobs in
     let did : AtBoth c.in_ok-jobs.jobs.items now (HasMade c.args.queue c.args.races) =
     rw c.as_mut_slice.ensures.value at c.run.ensures.ran in
-    let ran = told c.args.queue c.args.races c.in_ok-jobs.jobs.items now did in
     let whole = take_at now _ c.in_ok-jobs.jobs.len (c.run.auto.jobs ∙ c.as_mut_slice.ensures.len) in
     let passes = c.in_ok-passes.ensures.passes ∙ ap (map (λ job. job.pass)) whole in
-    let each = closes (λ job. job.pass) pass_seen (IsReady c.args.queue) c.args.queue.pool.layout c.args.races c.args.passes.items
-    c.args.lists.items c.in_ok-jobs.jobs.items now c.in_ok-jobs.ensures.passes c.in_ok-jobs.ensures.calls c.requires.passes
-    ran in
+    let each = closes (HasMade c.args.queue c.args.races) pass_seen (IsReady c.args.queue) c.args.queue.pool.layout c.args.races
+    (λ a b did. did.ready) (λ a b did. did.made) c.args.passes.items c.args.lists.items
+    c.in_ok-jobs.jobs.items now c.in_ok-jobs.ensures.passes c.in_ok-jobs.ensures.calls c.requires.passes
+    did in
     (each k x (ap (λ l. slice_get l k) (sym passes) ∙ at)).0
 
 pub close-requires-clause-numbered : goal.close-requires-clause-numbered
@@ -41,12 +42,12 @@ close-requires-clause-numbered g c k x at =
     let now = c.run.new.jobs in
     let did : AtBoth c.in_ok-jobs.jobs.items now (HasMade c.args.queue c.args.races) =
     rw c.as_mut_slice.ensures.value at c.run.ensures.ran in
-    let ran = told c.args.queue c.args.races c.in_ok-jobs.jobs.items now did in
     let whole = take_at now _ c.in_ok-jobs.jobs.len (c.run.auto.jobs ∙ c.as_mut_slice.ensures.len) in
     let passes = c.in_ok-passes.ensures.passes ∙ ap (map (λ job. job.pass)) whole in
-    let each = closes (λ job. job.pass) pass_seen (IsReady c.args.queue) c.args.queue.pool.layout c.args.races c.args.passes.items
-    c.args.lists.items c.in_ok-jobs.jobs.items now c.in_ok-jobs.ensures.passes c.in_ok-jobs.ensures.calls c.requires.passes
-    ran in
+    let each = closes (HasMade c.args.queue c.args.races) pass_seen (IsReady c.args.queue) c.args.queue.pool.layout c.args.races
+    (λ a b did. did.ready) (λ a b did. did.made) c.args.passes.items c.args.lists.items
+    c.in_ok-jobs.jobs.items now c.in_ok-jobs.ensures.passes c.in_ok-jobs.ensures.calls c.requires.passes
+    did in
     (each k x (ap (λ l. slice_get l k) (sym passes) ∙ at)).1
 
 pub returns-in-Ok : goal.returns-in-Ok
@@ -54,13 +55,13 @@ returns-in-Ok g c =
     let now = c.run.new.jobs in
     let did : AtBoth c.in_ok-jobs.jobs.items now (HasMade c.args.queue c.args.races) =
     rw c.as_mut_slice.ensures.value at c.run.ensures.ran in
-    let ran = told c.args.queue c.args.races c.in_ok-jobs.jobs.items now did in
     let whole = take_at now _ c.in_ok-jobs.jobs.len (c.run.auto.jobs ∙ c.as_mut_slice.ensures.len) in
     let passes = c.in_ok-passes.ensures.passes ∙ ap (map (λ job. job.pass)) whole in
     let answers = c.in_ok-passes.ensures.answers ∙ ap (map (λ job. job.answers)) whole in
     record {
-      ran = rw answers (runs (λ job. job.pass) pass_seen (IsReady c.args.queue) c.args.queue.pool.layout c.args.races c.args.passes.items
-          c.args.lists.items c.in_ok-jobs.jobs.items now c.in_ok-jobs.ensures.passes c.in_ok-jobs.ensures.calls c.requires.passes ran
+      ran = rw answers (runs (HasMade c.args.queue c.args.races) pass_seen (IsReady c.args.queue) c.args.queue.pool.layout c.args.races
+          (λ a b did. did.ready) (λ a b did. did.made) c.args.passes.items c.args.lists.items
+          c.in_ok-jobs.jobs.items now c.in_ok-jobs.ensures.passes c.in_ok-jobs.ensures.calls c.requires.passes did
           c.in-Ok.closed.items.items c.in-Ok.closed.closed.free.items
           (queue_run (view c.in-Ok.closed.closed.witness.seat) c.in-Ok.closed.closed.witness.live.items)
           (rw passes at c.in-Ok.ensures.closed) c.requires.lists c.requires.all);
