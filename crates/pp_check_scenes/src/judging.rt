@@ -8,11 +8,17 @@ use pp_program_scenes::{Devices, SOUND, Shown, Stage};
 use std::alloc::Global;
 use std::test::Fail;
 
-const WORKED: &[u8] =
-    b"certificate 1\nchange 1 1 insert 40 4\nchange 1 2 insert 30 3\nchange 1 3 remove 40\nchange 1 4 remove 30\nsaid 0 2 get 30 value 3\nsaid 1 1 insert 40 4 added\nsaid 1 2 insert 30 3 added\nsaid 1 3 remove 40 took 4\nsaid 1 4 remove 30 took 3\nend\n";
+const WORKED: &[u8] = b"certificate 1\n\
+    change 1 1 insert 40 4\nchange 1 2 insert 30 3\nchange 1 3 remove 40\nchange 1 4 remove 30\n\
+    said 0 2 get 30 value 3\nsaid 1 1 insert 40 4 added\nsaid 1 2 insert 30 3 added\n\
+    said 1 3 remove 40 took 4\nsaid 1 4 remove 30 took 3\nend\n";
 
-const CUTS: &[u8] =
-    b"certificate 1\nchange 63 1 insert 18446744073709551612 340282366920938463463374607431768211455\nchange 5 2 cut 18446744073709551612 340282366920938463463374607431768211455\nsaid 5 1 cut 18446744073709551612 0 other 340282366920938463463374607431768211455\nsaid 5 2 cut 18446744073709551612 340282366920938463463374607431768211455 took 340282366920938463463374607431768211455\nsaid 5 2 insert 0 0 added\nend\n";
+const CUTS: &[u8] = b"certificate 1\n\
+    change 63 1 insert 18446744073709551612 340282366920938463463374607431768211455\n\
+    change 5 2 cut 18446744073709551612 340282366920938463463374607431768211455\n\
+    said 5 1 cut 18446744073709551612 0 other 340282366920938463463374607431768211455\n\
+    said 5 2 cut 18446744073709551612 340282366920938463463374607431768211455 took 340282366920938463463374607431768211455\n\
+    said 5 2 insert 0 0 added\nend\n";
 
 fn verdict_of(alloc: Global, text: &[u8]) -> Result<Verdict, NoMemory>
     requires { length text.now ≤ 16777216 }
@@ -244,40 +250,37 @@ fn lines_are_refused_that_are_not_as_the_grammar_has_them(rt: HostRuntime) -> Re
     Ok(())
 }
 
-#[test]
-fn numbers_at_their_limits_are_read(rt: HostRuntime) -> Result<(), Fail> {
-    let verdict = verdict_of(rt.alloc(), CUTS)?;
-    assert_eq!(rt;
-        verdict,
+const AT_THEIR_LIMITS: [(&[u8], &[u8], Verdict); 3] = [
+    (
+        b"",
+        b"",
         Verdict::Misplaced {
             caller: 5,
-            number: 3
-        }
-    );
-    let placed = changed(
-        rt.alloc(),
-        CUTS,
+            number: 3,
+        },
+    ),
+    (
         b"said 5 1",
         b"said 5 18446744073709551615",
-    )?;
-    assert!(rt; placed.len() <= 1000);
-    let verdict = verdict_of(rt.alloc(), &placed)?;
-    assert_eq!(rt;
-        verdict,
         Verdict::Misplaced {
             caller: 5,
-            number: 1
-        }
-    );
-    let short = changed(
-        rt.alloc(),
-        CUTS,
+            number: 1,
+        },
+    ),
+    (
         b"said 5 2 insert 0 0 added\n",
         b"said 63 1 insert 18446744073709551612 340282366920938463463374607431768211455 added\n",
-    )?;
-    assert!(rt; short.len() <= 1000);
-    let verdict = verdict_of(rt.alloc(), &short)?;
-    assert_eq!(rt; verdict, Verdict::Yes);
+        Verdict::Yes,
+    ),
+];
+
+#[test]
+fn numbers_at_their_limits_are_read(rt: HostRuntime) -> Result<(), Fail> {
+    for (old, new, expected) in AT_THEIR_LIMITS {
+        let text = changed(rt.alloc(), CUTS, old, new)?;
+        assert!(rt; text.len() <= 1000);
+        assert_eq!(rt; verdict_of(rt.alloc(), &text)?, expected);
+    }
     Ok(())
 }
 
@@ -324,9 +327,7 @@ fn judgements_end_as_worked_by_hand(rt: HostRuntime) -> Result<(), Fail> {
                 ..SOUND
             };
             let shown = judged(rt.alloc(), &text, &devices)?;
-            assert_eq!(rt; shown.status, *status, "row {number}");
-            assert_eq!(rt; shown.sink.as_slice(), *sink, "row {number}");
-            assert_eq!(rt; shown.errs.len(), 0, "row {number}");
+            assert!(rt; shown.is(*status, sink, b""), "row {number}");
         }
     }
     Ok(())
@@ -363,9 +364,7 @@ fn a_read_and_a_write_that_fail_are_told(rt: HostRuntime) -> Result<(), Fail> {
     ];
     for (number, (devices, status, sink, errs)) in rows.iter().enumerate() {
         let shown = judged(rt.alloc(), WORKED, devices)?;
-        assert_eq!(rt; shown.status, *status, "row {number}");
-        assert_eq!(rt; shown.sink.as_slice(), *sink, "row {number}");
-        assert_eq!(rt; shown.errs.as_slice(), *errs, "row {number}");
+        assert!(rt; shown.is(*status, sink, errs), "row {number}");
     }
     Ok(())
 }
@@ -389,15 +388,9 @@ fn long_certificates_are_read_up_to_the_limit(rt: HostRuntime) -> Result<(), Fai
     let mut text = long_certificate(rt.alloc(), 762_579)?;
     assert_eq!(rt; text.len(), 16_777_216);
     let shown = judged(rt.alloc(), &text, &SOUND)?;
-    assert_eq!(rt; shown.status, 0);
-    assert_eq!(rt; shown.sink.as_slice(), b"yes\n".as_slice());
+    assert!(rt; shown.is(0, b"yes\n", b""));
     text.push(b'\n')?;
     let shown = judged(rt.alloc(), &text, &SOUND)?;
-    assert_eq!(rt; shown.status, 7);
-    assert_eq!(rt; shown.sink.len(), 0);
-    assert_eq!(rt;
-        shown.errs.as_slice(),
-        b"trace: longer than 16777216 bytes\n".as_slice()
-    );
+    assert!(rt; shown.is(7, b"", b"trace: longer than 16777216 bytes\n"));
     Ok(())
 }

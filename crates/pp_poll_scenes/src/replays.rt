@@ -81,9 +81,7 @@ fn plans_order_the_turns(rt: HostRuntime) -> Result<(), Fail> {
     ];
     for (line, input, status, sink, errs) in rows {
         let ended = replayed(&rt, rt.alloc(), line, &mut BlockOn::new(), input)?;
-        assert_eq!(rt; ended.errs.as_slice(), errs);
-        assert_eq!(rt; ended.sink.as_slice(), sink);
-        assert_eq!(rt; ended.status, status);
+        assert!(rt; ended.is(status, sink, errs), "{line}, status {status}");
     }
     Ok(())
 }
@@ -111,12 +109,10 @@ fn a_bad_line_of_a_plan_is_named(rt: HostRuntime) -> Result<(), Fail> {
         (b"schedule\n0 -1", b"schedule: line 2: turns\n"),
         (b"schedule\nschedule\n", b"schedule: line 2: fields\n"),
     ];
-    for (input, errs) in rows {
+    for (number, (input, errs)) in rows.iter().enumerate() {
         let line = "--map list --callers 2";
         let ended = replayed(&rt, rt.alloc(), line, &mut BlockOn::new(), input)?;
-        assert_eq!(rt; ended.errs.as_slice(), errs);
-        assert_eq!(rt; ended.sink.len(), 0);
-        assert_eq!(rt; ended.status, 9);
+        assert!(rt; ended.is(9, b"", errs), "row {number}");
     }
     Ok(())
 }
@@ -125,9 +121,7 @@ fn a_bad_line_of_a_plan_is_named(rt: HostRuntime) -> Result<(), Fail> {
 fn a_runner_fails(rt: HostRuntime) -> Result<(), Fail> {
     let line = "--map list --callers 2";
     let ended = replayed(&rt, rt.alloc(), line, &mut NoRunner::new(), LIST)?;
-    assert_eq!(rt; ended.errs.as_slice(), b"runner: failed\n".as_slice());
-    assert_eq!(rt; ended.sink.len(), 0);
-    assert_eq!(rt; ended.status, 13);
+    assert!(rt; ended.is(13, b"", b"runner: failed\n"));
     Ok(())
 }
 
@@ -232,9 +226,7 @@ fn places_stands_first(rt: HostRuntime) -> Result<(), Fail> {
     ];
     for (line, input, status, errs) in rows {
         let ended = replayed(&rt, rt.alloc(), line, &mut BlockOn::new(), input)?;
-        assert_eq!(rt; ended.errs.as_slice(), errs);
-        assert_eq!(rt; ended.sink.len(), 0);
-        assert_eq!(rt; ended.status, status);
+        assert!(rt; ended.is(status, b"", errs), "{line}");
     }
     Ok(())
 }

@@ -35,6 +35,13 @@ pub struct Shown {
     pub errs: Vec<u8>,
 }
 
+impl Shown {
+    /// Whether it is this status, with these bytes taken by the sink and by the sink for the line about an error.
+    pub fn is(&self, status: u8, sink: &[u8], errs: &[u8]) -> bool {
+        self.status == status && self.sink.as_slice() == sink && self.errs.as_slice() == errs
+    }
+}
+
 /// The words of a line.
 ///
 /// # Errors

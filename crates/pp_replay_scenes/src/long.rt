@@ -1,6 +1,6 @@
 //! Long traces over callers that share their keys, and made traces run again.
 
-use crate::replaying::replayed;
+use crate::replaying::{replayed, shows};
 use pp_outside::NoGate;
 use pp_program_scenes::SOUND;
 use std::alloc::Global;
@@ -92,9 +92,10 @@ fn made_traces_come_to_the_same_each_time(rt: HostRuntime) -> Result<(), Fail> {
     ];
     for (line, sink) in rows {
         for run in 0..3 {
-            let got = replayed(&rt, rt.alloc(), line, b"", &SOUND, &NoGate)?;
-            assert_eq!(rt; got.status, 0, "{line} {run}");
-            assert_eq!(rt; got.sink.as_slice(), sink, "{line} {run}");
+            assert!(rt;
+                shows(&rt, line, b"", &SOUND, 0, sink, b"")?,
+                "{line}, run {run}"
+            );
         }
     }
     Ok(())

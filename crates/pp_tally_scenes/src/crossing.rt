@@ -14,12 +14,7 @@ fn callers_claim_side_by_side(rt: HostRuntime) -> Result<(), Fail> {
     ] {
         let gate = Crossing::new();
         let got = tallied(&rt, rt.alloc(), line, &input, &SOUND, &gate)?;
-        assert_eq!(rt; got.status, 0, "{line}");
-        assert_eq!(rt;
-            got.sink.as_slice(),
-            b"bytes 4097\npieces 2\n0 4097\n".as_slice(),
-            "{line}"
-        );
+        assert!(rt; got.is(0, b"bytes 4097\npieces 2\n0 4097\n", b""), "{line}");
         assert!(rt; !gate.is_overdue(), "{line}");
     }
     Ok(())

@@ -1,6 +1,6 @@
 //! Devices that fail, inputs that are too long, and std's own reader and writer.
 
-use crate::tallying::{SMALL, SMALL_OUT, tallied};
+use crate::tallying::{SMALL, SMALL_OUT, shows};
 use pp_outside::{MemSink, NoGate, StdSink, StdSource};
 use pp_program_scenes::{Devices, SOUND, words_of};
 use pp_tally::tally;
@@ -10,6 +10,7 @@ use std::test::Fail;
 
 #[test]
 fn devices_fail_at_each_call_in_turn(rt: HostRuntime) -> Result<(), Fail> {
+    let line = "--map hash";
     for number in 1..3 {
         let failing = [number];
         let unread = Devices {
@@ -17,10 +18,10 @@ fn devices_fail_at_each_call_in_turn(rt: HostRuntime) -> Result<(), Fail> {
             failing_reads: &failing,
             ..SOUND
         };
-        let got = tallied(&rt, rt.alloc(), "--map hash", SMALL, &unread, &NoGate)?;
-        assert_eq!(rt; got.status, 3, "read {number}");
-        assert_eq!(rt; got.sink.len(), 0);
-        assert_eq!(rt; got.errs.as_slice(), b"read: failed\n".as_slice());
+        assert!(rt;
+            shows(&rt, line, SMALL, &unread, 3, b"", b"read: failed\n")?,
+            "read {number}"
+        );
     }
     for number in 1u64..5 {
         let failing = [number];
@@ -29,11 +30,12 @@ fn devices_fail_at_each_call_in_turn(rt: HostRuntime) -> Result<(), Fail> {
             failing_writes: &failing,
             ..SOUND
         };
-        let got = tallied(&rt, rt.alloc(), "--map hash", SMALL, &unwritten, &NoGate)?;
-        assert_eq!(rt; got.status, 4, "write {number}");
-        assert_eq!(rt; got.sink.len(), 9usize.saturating_mul(number as usize - 1));
-        assert!(rt; SMALL_OUT.starts_with(&got.sink));
-        assert_eq!(rt; got.errs.as_slice(), b"write: failed\n".as_slice());
+        let whole = 9usize.saturating_mul(number as usize - 1);
+        let written = &SMALL_OUT[..SMALL_OUT.len().min(whole)];
+        assert!(rt;
+            shows(&rt, line, SMALL, &unwritten, 4, written, b"write: failed\n")?,
+            "write {number}"
+        );
     }
     Ok(())
 }
@@ -41,13 +43,8 @@ fn devices_fail_at_each_call_in_turn(rt: HostRuntime) -> Result<(), Fail> {
 #[test]
 fn longer_inputs_are_refused(rt: HostRuntime) -> Result<(), Fail> {
     let longer = vec![in rt.alloc(); 0u8; 16_777_217]?;
-    let got = tallied(&rt, rt.alloc(), "--map plain", &longer, &SOUND, &NoGate)?;
-    assert_eq!(rt; got.status, 7);
-    assert_eq!(rt; got.sink.len(), 0);
-    assert_eq!(rt;
-        got.errs.as_slice(),
-        b"trace: longer than 16777216 bytes\n".as_slice()
-    );
+    let told = b"trace: longer than 16777216 bytes\n";
+    assert!(rt; shows(&rt, "--map plain", &longer, &SOUND, 7, b"", told)?);
     Ok(())
 }
 
@@ -66,7 +63,6 @@ fn the_real_edge_runs(rt: HostRuntime) -> Result<(), Fail> {
         &mut errs,
         &NoGate,
     );
-    assert_eq!(rt; ended.status, 0);
-    assert_eq!(rt; errs.written().len(), 0);
+    assert_eq!(rt; (ended.status, errs.written().len()), (0, 0));
     Ok(())
 }

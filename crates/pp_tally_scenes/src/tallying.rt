@@ -1,9 +1,9 @@
 //! Tallies with a source and sinks in memory.
 
-use pp_outside::Gate;
+use pp_outside::{Gate, NoGate};
 use pp_program_scenes::{Devices, Shown, Stage};
 use pp_tally::tally;
-use std::alloc::{AllocError, Global};
+use std::alloc::{AllocError, AllocGlobal, Global};
 use std::thread::Threads;
 
 /// A small input.
@@ -36,4 +36,22 @@ pub fn tallied<R: Threads + Sync, G: Gate + Sync>(
         gate,
     );
     stage.shown(alloc, ending.status)
+}
+
+/// Whether a tally ends with this status, with these bytes printed and these told of an error.
+///
+/// # Errors
+///
+/// There was no memory for the devices, or for what they showed.
+pub fn shows<R: Threads + Sync + AllocGlobal>(
+    rt: &R,
+    line: &str,
+    input: &[u8],
+    devices: &Devices,
+    status: u8,
+    sink: &[u8],
+    errs: &[u8],
+) -> Result<bool, AllocError> {
+    let got = tallied(rt, rt.alloc(), line, input, devices, &NoGate)?;
+    Ok(got.is(status, sink, errs))
 }

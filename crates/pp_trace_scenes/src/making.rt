@@ -35,27 +35,18 @@ fn the_first_calls_of_seed_one(rt: HostRuntime) -> Result<(), Fail> {
         assert!(rt; false, "no memory");
         return Ok(());
     };
-    assert_eq!(rt; alone.callers(), 1);
-    assert_eq!(rt; together.callers(), 64);
-    let alone = alone.into_lists();
-    let together = together.into_lists();
-    let value = 1147902781;
-    assert_eq!(rt;
-        alone[0].as_slice(),
-        [
-            Call::Remove { key: 1662 },
-            Call::Insert { key: 1131, value }
-        ]
-        .as_slice()
-    );
-    assert_eq!(rt;
-        together[0].as_slice(),
-        [Call::Remove { key: 106368 }].as_slice()
-    );
-    assert_eq!(rt;
-        together[1].as_slice(),
-        [Call::Insert { key: 72385, value }].as_slice()
-    );
-    assert_eq!(rt; together[63].len(), 0);
+    assert_eq!(rt; (alone.callers(), together.callers()), (1, 64));
+    let remove = |key: u64| Call::Remove { key };
+    let insert = |key: u64| Call::Insert {
+        key,
+        value: 1147902781,
+    };
+    let list = [remove(1662), insert(1131)];
+    assert_eq!(rt; alone.into_lists()[0].as_slice(), list.as_slice());
+    let lists = together.into_lists();
+    let first = [remove(106368)].to_vec(rt.alloc())?;
+    let second = [insert(72385)].to_vec(rt.alloc())?;
+    assert_eq!(rt; &lists[..2], [first, second].as_slice());
+    assert!(rt; lists[2..].iter().all(|list| list.is_empty()));
     Ok(())
 }
